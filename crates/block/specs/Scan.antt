@@ -6,12 +6,18 @@ use mathlib.Core.Logic.{_↔_}
 use Prim.Native.Nat.{ℕ, suc, _+_, _-_, _*_, _≤_, _<_}
 use lib.Dec.{leb, ltb, eqb}
 use lib.ListN.{length, getD}
+use denote.Ref.{RefT}
 use Rattle.std.specs.declared.option.Option.{Option}
 use Rattle.std.specs.declared.option.Option.the-variants.{Some, None}
 use Rattle.theory.specs.Grid.{Point, pt, Border}
 use Rattle.theory.specs.Skin.{below}
+use Rattle.block.specs.declared.Block.{Block}
 use Rattle.block.specs.declared.refusal.Refusal.{Refusal}
 use Rattle.block.specs.declared.refusal.Refusal.the-variants.{WrongLength, WrongSize, OpenBorder}
+
+-- the bytes of a block that was read
+abbrev pub bytes-in : RefT Block → List ℕ
+bytes-in k = k .now .bytes .now
 
 -- the first four bytes: how many points there are along x, y and z, and the threshold
 abbrev pub size-x : List ℕ → ℕ
@@ -27,27 +33,30 @@ abbrev pub threshold : List ℕ → ℕ
 threshold bs = getD bs 3 0
 
 -- the values follow, x going fastest, then y, then z: the place of a point's byte
-unfoldable pub byte-of : List ℕ → Point → ℕ
+abbrev pub byte-of : List ℕ → Point → ℕ
 byte-of bs (pt x y z) = 4 + (x + size-x bs * (y + size-y bs * z))
 
 -- the place behind the last value
-unfoldable pub byte-end : List ℕ → ℕ
+abbrev pub byte-end : List ℕ → ℕ
 byte-end bs = 4 + size-x bs * (size-y bs * size-z bs)
 
-unfoldable pub value-of : List ℕ → Point → ℕ
+abbrev pub value-of : List ℕ → Point → ℕ
 value-of bs p = getD bs (byte-of bs p) 0
 
-unfoldable pub within : List ℕ → Point → Bool
+abbrev pub within : List ℕ → Point → Bool
 within bs (pt x y z) = ltb x (size-x bs) && (ltb y (size-y bs) && ltb z (size-z bs))
 
 -- WHO IS INSIDE: the points of the block whose value is the threshold or more
 unfoldable pub inside : List ℕ → Point → Bool
 inside bs p = within bs p && leb (threshold bs) (value-of bs p)
 
+-- the first or the last of n
+abbrev pub at-end : ℕ → ℕ → Bool
+at-end i n = eqb i 0 || eqb (i + 1) n
+
 -- the first or the last point along some axis
-unfoldable pub on-border : List ℕ → Point → Bool
-on-border bs (pt x y z) =
-    (eqb x 0 || eqb (x + 1) (size-x bs)) || ((eqb y 0 || eqb (y + 1) (size-y bs)) || (eqb z 0 || eqb (z + 1) (size-z bs)))
+abbrev pub on-border : List ℕ → Point → Bool
+on-border bs (pt x y z) = at-end x (size-x bs) || (at-end y (size-y bs) || at-end z (size-z bs))
 
 -- the points in the order of their values
 abbrev pub row : ℕ → ℕ → ℕ → List Point
@@ -74,8 +83,11 @@ abbrev pub faults : List ℕ → List Point → ℕ → Option Refusal
 faults bs [] i = None
 faults bs (p ∷ ps) i = first-of (fault-at bs p i) (faults bs ps (suc i))
 
+abbrev pub in-range : ℕ → Bool
+in-range n = leb 2 n && leb n 96
+
 abbrev pub size-fault : ℕ → ℕ → Option Refusal
-size-fault n i = cond (leb 2 n && leb n 96) None (Some (WrongSize i))
+size-fault n i = cond (in-range n) None (Some (WrongSize i))
 
 abbrev pub header-fault : List ℕ → Option Refusal
 header-fault bs =

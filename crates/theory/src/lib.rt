@@ -1,9 +1,25 @@
 // What is proved of every skin, whatever is inside: one small function for each theorem, whose contract is the theorem.
-ghost use Rattle.theory.specs.Faces.{Pieces-meet, Pieces-turned, Faces-decide};
+ghost use Rattle.theory.specs.Closed.{Nothing-open};
+ghost use Rattle.theory.specs.Faces.{Pieces-meet, Cubes-meet, Pieces-turned, Faces-decide, Face-law, Faces-signed};
+ghost use Rattle.theory.specs.Worked.{Worked-out};
+
+// Where nothing is inside there is no triangle.
+pub fn nothing_inside_has_no_skin() -> u8
+    ensures { λ _. ⌜ Nothing-open ⌝ }
+{
+    0
+}
 
 // The six pieces of a cube meet in common faces only.
 pub fn pieces_meet_in_faces() -> u8
     ensures { λ _. ⌜ Pieces-meet ⌝ }
+{
+    0
+}
+
+// Two neighbouring cubes cut their common square alike.
+pub fn cubes_meet_in_faces() -> u8
+    ensures { λ _. ⌜ Cubes-meet ⌝ }
 {
     0
 }
@@ -18,6 +34,21 @@ pub fn pieces_are_turned_alike() -> u8
 // The side that the skin has in a face depends on the face's three points alone.
 pub fn faces_decide() -> u8
     ensures { λ _. ⌜ Faces-decide ⌝ }
+{
+    0
+}
+
+// Sums over the faces of all pieces cancel, whatever is summed.
+pub fn faces_cancel() -> u8
+    ensures signed { λ _. ⌜ Faces-signed ⌝ }
+    ensures law { λ _. ⌜ Face-law ⌝ }
+{
+    0
+}
+
+// Two small blocks, worked out.
+pub fn worked_blocks() -> u8
+    ensures { λ _. ⌜ Worked-out ⌝ }
 {
     0
 }
