@@ -194,11 +194,7 @@ Face-law =
     (g : Face Point → ℕ) → ((p q r : Point) → f p ≡ false → f q ≡ false → f r ≡ false → g (face p q r) ≡ 0) →
     over-cubes x y z (over-faces g against) ≡ over-cubes x y z (over-faces g with-clock)
 
--- the faces of that law are the pieces' faces, each of them once
-abbrev pub Faces-signed : Type 0
-Faces-signed =
-    Every
-    (λ w.
-         Every (λ t. runs t (faces-of w) ≡ 1) (against w ++ map turn (with-clock w))
-         × Every (λ t. runs t (against w ++ map turn (with-clock w)) ≡ 1) (faces-of w))
-    pieces
+-- the faces of that law are the pieces' faces, and each of those is one of them
+pub record Faces-signed : Type 0 where
+  pub listed : Every (λ w. Every (λ t. runs t (faces-of w) ≡ 1) (against w ++ map turn (with-clock w))) pieces
+  pub all-listed : Every (λ w. Every (λ t. runs t (against w ++ map turn (with-clock w)) ≡ 1) (faces-of w)) pieces

@@ -4,4 +4,4 @@ use Rattle.theory.proofs.faces_cancel.Needs as need
 use Rattle.theory.proofs.Law.{face-law}
 
 pub returns : need.returns
-returns c = record { signed = omega arith; law = face-law }
+returns c = record { signed = record { listed = omega arith; all-listed = omega arith }; law = face-law }
