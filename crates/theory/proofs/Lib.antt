@@ -1,6 +1,10 @@
 pub mod Sums
 pub mod Same
+pub mod Bounds
 pub mod Law
-pub mod Seams
-pub mod Balance
+pub mod Patterns
+pub mod Whole
+pub mod Around
+pub mod Once
+pub mod Closing
 pub mod Spelling

@@ -1,7 +1,14 @@
 // What is proved of every skin, whatever is inside: one small function for each theorem, whose contract is the theorem.
-ghost use Rattle.theory.specs.Closed.{Nothing-open};
+ghost use Rattle.theory.specs.Closed.{Whole-triangles, Nothing-open};
 ghost use Rattle.theory.specs.Faces.{Pieces-meet, Cubes-meet, Pieces-turned, Faces-decide, Face-law, Faces-signed};
 ghost use Rattle.theory.specs.Worked.{Worked-out};
+
+// No triangle has a corner twice.
+pub fn triangles_are_whole() -> u8
+    ensures { λ _. ⌜ Whole-triangles ⌝ }
+{
+    0
+}
 
 // Where nothing is inside there is no triangle.
 pub fn nothing_inside_has_no_skin() -> u8
