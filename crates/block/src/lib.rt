@@ -10,7 +10,9 @@ ghost use Rattle.block.specs.Scan.{bytes-in, in-range, at-end, size-x, size-y,
 mod refusal;
 
 pub use refusal::Refusal;
+pub use refusal::RefusalDebug;
 pub use refusal::RefusalDisplay;
+pub use refusal::RefusalPartialEq;
 
 // How few and how many points there may be along an axis.
 const LEAST: u8 = 2;
@@ -212,4 +214,70 @@ pub fn taken_exactly_if_good() -> u8
     ensures { λ _. ⌜ Taken-if-good ⌝ }
 {
     0
+}
+
+#[cfg(test)]
+mod tests {
+    use super::*;
+    use std::test::*;
+
+    fn refused(bytes: &[u8]) -> Option<Refusal> {
+        match Block::read(bytes) {
+            Ok(_) => None,
+            Err(refusal) => Some(refusal),
+        }
+    }
+
+    #[test]
+    fn short_files() -> Result<(), Fail> {
+        let bytes = [2, 2, 2, 1];
+        check_eq(refused(&bytes[0..0]), Some(Refusal::WrongLength(0)))?;
+        check_eq(refused(&bytes[0..1]), Some(Refusal::WrongLength(1)))?;
+        check_eq(refused(&bytes[0..2]), Some(Refusal::WrongLength(2)))?;
+        check_eq(refused(&bytes[0..3]), Some(Refusal::WrongLength(3)))?;
+        check_eq(refused(&bytes), Some(Refusal::WrongLength(4)))
+    }
+
+    #[test]
+    fn sizes_and_threshold() -> Result<(), Fail> {
+        check_eq(refused(&[1, 1, 1, 0]), Some(Refusal::WrongSize(0)))?;
+        check_eq(refused(&[97, 2, 2, 1]), Some(Refusal::WrongSize(0)))?;
+        check_eq(refused(&[96, 1, 2, 1]), Some(Refusal::WrongSize(1)))?;
+        check_eq(refused(&[2, 97, 2, 1]), Some(Refusal::WrongSize(1)))?;
+        check_eq(refused(&[2, 96, 1, 1]), Some(Refusal::WrongSize(2)))?;
+        check_eq(refused(&[2, 2, 255, 1]), Some(Refusal::WrongSize(2)))?;
+        check_eq(refused(&[2, 2, 96, 0]), Some(Refusal::WrongSize(3)))
+    }
+
+    #[test]
+    fn borders_and_ends() -> Result<(), Fail> {
+        check_eq(refused(&[2, 2, 2, 9, 8, 8, 8, 8, 8, 8, 8, 8]), None)?;
+        check_eq(refused(&[2, 2, 2, 9, 9, 8, 8, 8, 8, 8, 8, 8]), Some(Refusal::OpenBorder(4)))?;
+        check_eq(refused(&[2, 2, 2, 9, 8, 8, 8, 8, 8, 8, 8, 9]), Some(Refusal::OpenBorder(11)))?;
+        check_eq(refused(&[2, 2, 2, 9, 8, 8, 8, 8, 8, 8, 8]), Some(Refusal::WrongLength(11)))?;
+        check_eq(refused(&[2, 2, 2, 9, 8, 8, 8, 8, 8, 8, 8, 8, 8]), Some(Refusal::WrongLength(12)))?;
+        check_eq(refused(&[2, 2, 2, 9, 8, 255]), Some(Refusal::OpenBorder(5)))
+    }
+
+    #[test]
+    fn the_largest_block(rt: LibcRuntime) -> Result<(), Fail> {
+        let mut bytes = vec![in rt.alloc(); 0u8; 884740]?;
+        check(bytes.len() == 884740)?;
+        bytes[0] = 96;
+        bytes[1] = 96;
+        bytes[2] = 96;
+        bytes[3] = 1;
+        bytes[4 + 1 + 96 + 96 * 96] = 1;
+        check_eq(refused(bytes.as_slice()), None)?;
+        check(Block { bytes: bytes.as_slice() }.inside(1, 1, 1))?;
+        check(!Block { bytes: bytes.as_slice() }.inside(1, 1, 2))?;
+        bytes.push(0)?;
+        check_eq(refused(bytes.as_slice()), Some(Refusal::WrongLength(884740)))
+    }
+
+    #[test]
+    fn printed(rt: LibcRuntime) -> Result<(), Fail> {
+        let text = Refusal::OpenBorder(11).to_string(rt.alloc())?;
+        check_eq(text.as_str(), "refused 3 at 11")
+    }
 }
