@@ -7,4 +7,9 @@ pub mod Whole
 pub mod Around
 pub mod Once
 pub mod Closing
+pub mod Walks
+pub mod Pieces
+pub mod Crossings
+pub mod Near
+pub mod Rings
 pub mod Spelling

@@ -5,6 +5,7 @@ use mathlib.Core.List.{List, [], _∷_, map}
 use Prim.Native.Nat.{ℕ, suc, _+_, _*_, _-_, _≤_}
 use native.Mathlib.Omega.{arith}
 use lib.Dec.{eqb, leb}
+use Rattle.std.proofs.shelf.Elements.{all-weaker}
 use Rattle.std.proofs.shelf.Tests.{and-parts, eqb-true, leb-true}
 use Rattle.std.specs.Joined.{joined}
 use Rattle.theory.specs.Grid.{Point, pt, same-point, Offset, off, lowest, raised, _⊕_, Piece, way, pieces}
@@ -15,7 +16,7 @@ use Rattle.theory.proofs.Sums.{sum-joined, sum-map, sum-same, sum-skin, sum-cu
 use Rattle.theory.proofs.Bounds.{sum-le, none-or, one-cube}
 use Rattle.theory.proofs.Same.{same-true, all, all-every}
 use Rattle.theory.proofs.Patterns.{by-bits, piece-cut, at, same-edge, in-piece-at, same-point-at, same-at}
-use Rattle.theory.proofs.Patterns.{every-weaker, both-four, whoever, pattern-at}
+use Rattle.theory.proofs.Patterns.{both-four, whoever, pattern-at}
 
 -- A side names its owner: how the second point of its first corner and the two of its second corner lie from its first point is the same
 -- wherever the cube stands, and tells which piece has the side and which point of its cube the first point is. A table, computed from the
@@ -144,7 +145,7 @@ claimed : (f : Point → Bool) (l : Point) (c d : Corner) (w : Piece) → own ta
 unfolding own
 claimed f l c d w h =
     let n = ap (sides same c d) (in-piece-at f l w) ∙ sides-at l c d (piece-cut (λ o. f (l ⊕ o)) w) in
-    let r = none-or (Within c d) (hits l c d) ss (every-weaker _ _ one ss (all-every (finds table w ss) ss h)) in
+    let r = none-or (Within c d) (hits l c d) ss (all-weaker _ _ one ss (all-every (finds table w ss) ss h)) in
     omega arith
   where
     ss : List Side
@@ -163,7 +164,7 @@ one-piece true (way s a (off i j k) c d) =
 cube-once : (f : Point → Bool) (l : Point) (c d : Corner) → sides same c d (cube f l) ≤ one-if (same-point (l ⊕ owner c d .0) (first-point c))
 unfolding passes claim
 cube-once f l c d =
-    let p = every-weaker _ _ (claimed f l c d) pieces (pattern-at (own table) each-finds-itself (λ o. f (l ⊕ o))) in
+    let p = all-weaker _ _ (claimed f l c d) pieces (pattern-at (own table) each-finds-itself (λ o. f (l ⊕ o))) in
     let a = sum-cube (side same c d) f l in
     let b = sum-le (λ w. sides same c d (in-piece f l w)) (λ w. claim l w c d) pieces p in
     let e = one-piece (same-point (l ⊕ owner c d .0) (first-point c)) (owner c d .1) in

@@ -6,6 +6,7 @@ use mathlib.Core.List.{List, [], _∷_, map}
 use Prim.Native.Nat.{ℕ, suc}
 use native.Mathlib.Omega.{arith}
 use lib.Dec.{eqb}
+use Rattle.std.proofs.shelf.Elements.{all-weaker}
 use Rattle.std.proofs.shelf.Tests.{eq-eqb, ne-eqb}
 use Rattle.std.specs.Vec.{Every}
 use Rattle.theory.specs.Grid.{Point, pt, same-point, Offset, off, raised, _⊕_, Piece, way, pieces}
@@ -48,10 +49,6 @@ pub same-at : (p : Point) (c d : Edge Offset) → same (at p c) (at p d) ≡ sam
 unfolding same
 same-at p (edge a b) (edge c d) = ap₂ (λ u v. u && v) (same-point-at p a c) (same-point-at p b d)
 
-pub every-weaker : {A : Type 0} (P Q : A → Type 0) → ((x : A) → P x → Q x) → (xs : List A) → Every P xs → Every Q xs
-every-weaker P Q g [] h = tt
-every-weaker P Q g (x ∷ xs) h = (g x (h .0), every-weaker P Q g xs (h .1))
-
 -- a test of the triangles in a piece passes whoever is inside
 abbrev pub whoever : (List (Tri (Edge Offset)) → Bool) → Piece → Bool
 whoever t w = both (λ i. both (λ j. both (λ k. both (λ l. t (by-bits i j k l w)))))
@@ -68,4 +65,4 @@ whoever-at t (way s a b c d) e g = both-four (λ i j k l. t (by-bits i j k l (wa
 
 pub pattern-at : (t : Piece → List (Tri (Edge Offset)) → Bool) → all (λ w. whoever (t w) w) pieces ≡ true →
     (g : Offset → Bool) → Every (λ w. t w (piece-cut g w) ≡ true) pieces
-pattern-at t e g = every-weaker _ _ (λ w h. whoever-at (t w) w h g) pieces (all-every (λ w. whoever (t w) w) pieces e)
+pattern-at t e g = all-weaker _ _ (λ w h. whoever-at (t w) w h g) pieces (all-every (λ w. whoever (t w) w) pieces e)

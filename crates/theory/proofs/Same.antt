@@ -1,14 +1,13 @@
 -- The tests of sameness of points and corners mean equality; the table is one table for every sort of point; and what a computed test
 -- says is taken out of it. Assumes nothing.
-use mathlib.Core.Path.{_≡_, refl, sym, ap, ap₂, subst, _∙_}
+use mathlib.Core.Path.{_≡_, refl}
 use mathlib.Core.Bool.{Bool, true, false, _&&_}
 use mathlib.Core.List.{List, [], _∷_, map}
-use Prim.Native.Nat.{ℕ, zero, suc}
 use lib.Dec.{eqb}
 use Rattle.std.proofs.shelf.Tests.{and-parts, and-from, eqb-true, eq-eqb}
 use Rattle.std.specs.Vec.{Every}
 use Rattle.theory.specs.Grid.{Point, pt, same-point}
-use Rattle.theory.specs.Triangle.{Edge, edge, Tri, tri}
+use Rattle.theory.specs.Triangle.{edge}
 use Rattle.theory.specs.Skin.{Corner, same, cut}
 use Rattle.theory.specs.Faces.{renamed}
 

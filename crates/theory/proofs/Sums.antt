@@ -1,14 +1,16 @@
 -- Sums of any weight: over lists put together, over the pieces of a cube, over the cubes of a skin. Assumes nothing.
 use mathlib.Core.Path.{_≡_, refl, sym, ap, ap₂, _∙_, fun-ext}
-use mathlib.Core.Bool.{Bool, true, false}
+use mathlib.Core.Bool.{Bool}
 use mathlib.Core.List.{List, [], _∷_, _++_, map}
-use Prim.Native.Nat.{ℕ, zero, suc, _+_, _≤_, _<_}
-use native.Mathlib.Nat.{add-assoc, zero-add, add-zero}
+use Prim.Native.Nat.{ℕ, zero, suc, _+_, _<_}
+use native.Mathlib.Nat.{add-assoc, zero-add}
+use native.Mathlib.Numerals.{one-add}
 use native.Mathlib.Omega.{arith}
+use lib.ListN.{length}
 use Rattle.std.specs.Joined.{joined}
 use Rattle.std.specs.Vec.{Every}
-use Rattle.theory.specs.Grid.{Point, pt, Piece, pieces}
-use Rattle.theory.specs.Triangle.{Tri, sum-of}
+use Rattle.theory.specs.Grid.{Point, pt, pieces}
+use Rattle.theory.specs.Triangle.{sum-of}
 use Rattle.theory.specs.Skin.{Triangle, in-piece, cube, below, skin}
 use Rattle.theory.specs.Faces.{sum-below, over-cubes}
 
@@ -23,6 +25,10 @@ sum-joined h g (x ∷ xs) = sum-append h (g x) (joined g xs) ∙ ap (λ n. sum-o
 pub sum-map : {A B : Type 0} (h : B → ℕ) (g : A → B) (xs : List A) → sum-of h (map g xs) ≡ sum-of (λ x. h (g x)) xs
 sum-map h g [] = refl
 sum-map h g (x ∷ xs) = ap (λ n. h (g x) + n) (sum-map h g xs)
+
+pub sum-ones : {A : Type 0} (xs : List A) → sum-of (λ x. 1) xs ≡ length xs
+sum-ones [] = refl
+sum-ones (x ∷ xs) = ap (λ n. 1 + n) (sum-ones xs) ∙ one-add (length xs)
 
 pub sum-same : {A : Type 0} (h g : A → ℕ) → ((x : A) → h x ≡ g x) → (xs : List A) → sum-of h xs ≡ sum-of g xs
 sum-same h g e xs = ap (λ k. sum-of k xs) (fun-ext e)

@@ -2,6 +2,7 @@
 use mathlib.Core.Path.{_≡_, refl, subst, sym, _∙_}
 use mathlib.Core.Bool.{Bool, true, not, _&&_}
 use mathlib.Core.List.{List, [], _∷_, map}
+use Rattle.std.proofs.shelf.Elements.{all-weaker}
 use Rattle.std.proofs.shelf.Tests.{and-parts, not-true}
 use Rattle.std.specs.Vec.{Every}
 use Rattle.theory.specs.Grid.{Point, Offset, _⊕_, Piece, pieces}
@@ -11,7 +12,7 @@ use Rattle.theory.specs.Faces.{renamed}
 use Rattle.theory.specs.Closed.{Three-corners, Whole-triangles}
 use Rattle.theory.proofs.Sums.{every-skin}
 use Rattle.theory.proofs.Same.{all, all-every}
-use Rattle.theory.proofs.Patterns.{piece-cut, same-edge, in-piece-at, same-at, every-weaker, whoever, pattern-at}
+use Rattle.theory.proofs.Patterns.{piece-cut, same-edge, in-piece-at, same-at, whoever, pattern-at}
 
 three : Tri (Edge Offset) → Bool
 three (tri a b e) = not (same-edge a b) && (not (same-edge b e) && not (same-edge e a))
@@ -36,10 +37,10 @@ every-map P g (x ∷ xs) h = (h .0, every-map P g xs (h .1))
 pub whole-triangles : Whole-triangles
 whole-triangles f x y z =
     every-skin (Three-corners same) f x y z
-    (λ p. every-weaker _ _ (one p) pieces (pattern-at (λ w. all three) three-everywhere (λ o. f (p ⊕ o))))
+    (λ p. all-weaker _ _ (one p) pieces (pattern-at (λ w. all three) three-everywhere (λ o. f (p ⊕ o))))
   where
     one : (p : Point) (w : Piece) → all three (piece-cut (λ o. f (p ⊕ o)) w) ≡ true → Every (Three-corners same) (in-piece f p w)
     one p w h =
         subst (Every (Three-corners same)) (sym (in-piece-at f p w))
         (every-map (Three-corners same) (renamed (λ o. p ⊕ o)) _
-          (every-weaker _ _ (three-at p) _ (all-every three (piece-cut (λ o. f (p ⊕ o)) w) h)))
+          (all-weaker _ _ (three-at p) _ (all-every three (piece-cut (λ o. f (p ⊕ o)) w) h)))

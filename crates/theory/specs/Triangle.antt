@@ -1,6 +1,6 @@
 -- Corners, triangles, their sides, and what stands around a corner. A triangle is stated over any sort of corner, with a test of
 -- sameness: the skin's corners are edges of the grid, a file's are numbers. Assumes nothing: these are definitions.
-use mathlib.Core.Bool.{Bool, true, false, cond, _&&_, _||_}
+use mathlib.Core.Bool.{Bool, cond, _&&_, _||_}
 use mathlib.Core.List.{List, [], _∷_}
 use Prim.Native.Nat.{ℕ, _+_}
 use Rattle.std.specs.Joined.{joined}

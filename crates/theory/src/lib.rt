@@ -1,11 +1,33 @@
 // What is proved of every skin, whatever is inside: one small function for each theorem, whose contract is the theorem.
-ghost use Rattle.theory.specs.Closed.{Whole-triangles, Nothing-open};
+ghost use Rattle.theory.specs.Closed.{Closed, Whole-triangles, One-ring, Parted, Nothing-open};
 ghost use Rattle.theory.specs.Faces.{Pieces-meet, Cubes-meet, Pieces-turned, Faces-decide, Face-law, Faces-signed};
+ghost use Rattle.theory.specs.Spelled.{Spelled-out};
 ghost use Rattle.theory.specs.Worked.{Worked-out};
+
+// Each side of a triangle is run once, and exactly one other triangle runs it the other way.
+pub fn skin_is_closed() -> u8
+    ensures { λ _. ⌜ Closed ⌝ }
+{
+    0
+}
 
 // No triangle has a corner twice.
 pub fn triangles_are_whole() -> u8
     ensures { λ _. ⌜ Whole-triangles ⌝ }
+{
+    0
+}
+
+// Around each corner there is one ring of triangles.
+pub fn corners_have_one_ring() -> u8
+    ensures { λ _. ⌜ One-ring ⌝ }
+{
+    0
+}
+
+// The corners are the edges of the grid from a point inside to one outside: all of these, and nothing else.
+pub fn skin_parts_inside_from_outside() -> u8
+    ensures { λ _. ⌜ Parted ⌝ }
 {
     0
 }
@@ -49,6 +71,13 @@ pub fn faces_decide() -> u8
 pub fn faces_cancel() -> u8
     ensures signed { λ _. ⌜ Faces-signed ⌝ }
     ensures law { λ _. ⌜ Face-law ⌝ }
+{
+    0
+}
+
+// The skin spelled out, cube by cube.
+pub fn skin_is_as_spelled_out() -> u8
+    ensures { λ _. ⌜ Spelled-out ⌝ }
 {
     0
 }
