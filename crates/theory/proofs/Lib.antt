@@ -13,3 +13,5 @@ pub mod Crossings
 pub mod Near
 pub mod Rings
 pub mod Spelling
+pub mod Coordinates
+pub mod Placing

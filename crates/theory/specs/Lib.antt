@@ -5,3 +5,4 @@ pub mod Closed
 pub mod Faces
 pub mod Worked
 pub mod Spelled
+pub mod Places

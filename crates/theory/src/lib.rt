@@ -1,6 +1,7 @@
 // What is proved of every skin, whatever is inside: one small function for each theorem, whose contract is the theorem.
 ghost use Rattle.theory.specs.Closed.{Closed, Whole-triangles, One-ring, Parted, Nothing-open};
 ghost use Rattle.theory.specs.Faces.{Pieces-meet, Cubes-meet, Pieces-turned, Faces-decide, Face-law, Faces-signed};
+ghost use Rattle.theory.specs.Places.{Lie-between-ends, Step-known, Strictly-within, Either-end, No-two-at-one-place, Crossed-once};
 ghost use Rattle.theory.specs.Spelled.{Spelled-out};
 ghost use Rattle.theory.specs.Worked.{Worked-out};
 
@@ -71,6 +72,30 @@ pub fn faces_decide() -> u8
 pub fn faces_cancel() -> u8
     ensures signed { λ _. ⌜ Faces-signed ⌝ }
     ensures law { λ _. ⌜ Face-law ⌝ }
+{
+    0
+}
+
+// A coordinate lies between those of the two ends of its step.
+pub fn coordinates_lie_between_ends() -> u8
+    ensures { λ _. ⌜ Lie-between-ends ⌝ }
+{
+    0
+}
+
+// A place within a step of the grid gives back the step: it lies on no other, and at no point of the grid.
+pub fn places_give_back_steps() -> u8
+    ensures known { λ _. ⌜ Step-known ⌝ }
+    ensures within { λ _. ⌜ Strictly-within ⌝ }
+    ensures turned { λ _. ⌜ Either-end ⌝ }
+{
+    0
+}
+
+// No two corners of a skin are at one place; a step with one end inside has exactly one corner on it, and any other step none.
+pub fn corners_lie_apart() -> u8
+    ensures apart { λ _. ⌜ No-two-at-one-place ⌝ }
+    ensures once { λ _. ⌜ Crossed-once ⌝ }
 {
     0
 }
