@@ -1,0 +1,9 @@
+mod Numbering
+mod Joining
+mod Agreeing
+mod Levels
+mod Parity
+mod Turning
+mod Keeping
+mod Enclosing
+mod Telling
