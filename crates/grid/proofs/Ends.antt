@@ -2,9 +2,10 @@
 use mathlib.Core.Path.{_≡_, refl, sym, ap, _∙_}
 use mathlib.Core.Bool.{Bool, true, false, cond}
 use mathlib.Core.Logic.{_↔_, _≢_}
-use Prim.Native.Nat.{ℕ, zero, suc, _-_, _<_}
+use Prim.Native.Nat.{ℕ, zero, suc, _-_, _≤_, _<_}
 use native.Mathlib.Omega.{arith}
 use lib.Dec.{leb}
+use mir.Val.{boolByte}
 use Rattle.std.proofs.shelf.Tests.{and-parts, and-from, leb-true, le-leb}
 use Rattle.std.specs.declared.option.Option.{Option}
 use Rattle.std.specs.declared.option.Option.the-variants.{Some, None}
@@ -102,6 +103,14 @@ lower (pt u v w) (pt x y z) (off a b c) = (
       let in-z = back c w z .1 (cc) in
       some-if _ _ _ .1 (and-from _ _ (in-x .0) (and-from _ _ (in-y .0) (in-z .0)), λ i. pt (in-x .1 i) (in-y .1 i) (in-z .1 i)),
 )
+
+-- one coordinate less the step's, as the code computes it
+pub checked-back : (a : Bool) (u x : ℕ) → (boolByte a ≤ x) × (u ≡ x - boolByte a) → x ≡ raised a u
+checked-back false u x h = omega arith
+checked-back true u x h = omega arith
+
+pub lower-found : (o : Offset) (a b c : Bool) (u v w x y z : ℕ) → off a b c ≡ o → x ≡ raised a u → y ≡ raised b v → z ≡ raised c w → Some (pt u v w) ≡ lower-of (pt x y z) o
+lower-found o a b c u v w x y z e ex ey ez = sym (lower (pt u v w) (pt x y z) o .1 ((λ i. pt (ex i) (ey i) (ez i)) ∙ ap (λ s. pt u v w ⊕ s) e))
 
 pub ends-joined : Ends-joined
 ends-joined = record { lower = lower; stepped = stepped; apart = apart }

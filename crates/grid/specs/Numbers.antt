@@ -15,7 +15,7 @@ use Rattle.grid.specs.Places.{step-number, step-in}
 abbrev pub sized : ℕ → ℕ → ℕ → Option (ℕ × ℕ × ℕ)
 sized a b c = cond (eqb a 0 || (eqb b 0 || eqb c 0)) None (Some (a, b, c))
 
--- the number of a point: x goes fastest, then y, then z
+-- the number of a point: along x first, then y, then z
 abbrev pub number-of : ℕ → ℕ → Point → ℕ
 number-of a b (pt x y z) = x + a * (y + b * z)
 

@@ -1,4 +1,4 @@
-// The points and the edges of a grid, and their numbers: found, and undone, without a search.
+// The points and the edges of a grid, and their numbers: found by a sum, and undone by division.
 ghost use mathlib.Core.Path.{_≡_};
 ghost use Prim.Native.Nat.{_*_, _^_, _<_};
 ghost use Rattle.std.specs.Options.{mapped};
@@ -40,7 +40,7 @@ impl Grid {
         Some(Grid { a, b, c })
     }
 
-    // The number of a point, x going fastest, then y, then z. Points past the grid have one too, which another point may have.
+    // The number of a point: along x first, then y, then z. Points past the grid have one too, which another point may have.
     pub fn point_number(&self, p: Point) -> PointNumber
         ensures value { λ r. ⌜ r .0 ≡ number-of (now (self .entry) .a) (now (self .entry) .b) (at p) ⌝ }
         ensures bound { λ r. ⌜ r .0 < 2 ^ 24 ⌝ }

@@ -1,5 +1,4 @@
-// A corner of a triangle in a piece, and the twelve that there are.
-// A corner by the names of the two ends of its edge.
+// A corner of a triangle in a piece, by the names of the two ends of its edge; and the twelve that there are.
 #[derive(Clone, Copy, PartialEq, Eq, Debug)]
 pub struct Pair {
     pub inside: u8,
