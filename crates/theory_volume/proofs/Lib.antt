@@ -1,0 +1,11 @@
+pub mod Form
+pub mod Signs
+pub mod Corners
+pub mod Balance
+pub mod Shapes
+pub mod Patterns
+pub mod Enclosing
+pub mod Above
+pub mod Steps
+pub mod Cubes
+pub mod Sizes

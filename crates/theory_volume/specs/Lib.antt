@@ -1,0 +1,3 @@
+pub mod Volume
+pub mod Inside
+pub mod Sizes
