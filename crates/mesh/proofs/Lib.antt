@@ -1,0 +1,4 @@
+mod Ranges
+mod Numbers
+mod Puts
+mod Back
