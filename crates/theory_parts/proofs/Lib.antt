@@ -1,9 +1,9 @@
-mod Numbering
-mod Joining
-mod Agreeing
-mod Levels
-mod Parity
-mod Turning
-mod Keeping
-mod Enclosing
-mod Telling
+pub mod Numbering
+pub mod Joining
+pub mod Agreeing
+pub mod Levels
+pub mod Parity
+pub mod Turning
+pub mod Keeping
+pub mod Enclosing
+pub mod Telling

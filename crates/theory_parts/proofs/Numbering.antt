@@ -53,8 +53,12 @@ in-turn-only P n (p ∷ ps) (q ∷ qs) m k l known before alike (inr a) (inr b) 
     more : p ≡ n → q ≡ n → (c : ℕ) → c < suc n → With P p q c c
     more e g c h = elim (cases-lt c n) [ inl b ↦ inl (known c b) | inr b ↦ inr (omega arith) ]
 
+-- lists of numbers given in turn are one list, if the same places have equal numbers in both
+pub in-turn-once : (ps qs : List ℕ) (m n : ℕ) → length ps ≡ length qs → Alike ps qs → In-turn 0 ps m → In-turn 0 qs n → (ps ≡ qs) × (m ≡ n)
+in-turn-once ps qs m n l alike = in-turn-only (λ a b. ⊥) 0 ps qs m n l (λ a h. absurd (omega arith)) (λ a b h. absurd h) alike
+
 pub only-numbering : {C : Type 0} (same : C → C → Bool) → Only-numbering same
 only-numbering same ts ps qs m n P Q =
-    in-turn-only (λ a b. ⊥) 0 ps qs m n (P .long ∙ sym (Q .long)) (λ a h. absurd (omega arith)) (λ a b h. absurd h)
+    in-turn-once ps qs m n (P .long ∙ sym (Q .long))
       (λ i j h k. Iff·trans (P .alike i j (omega arith) (omega arith)) (Iff·symm (Q .alike i j (omega arith) (omega arith))))
       (P .in-turn) (Q .in-turn)

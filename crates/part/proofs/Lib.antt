@@ -1,0 +1,7 @@
+mod Connection
+mod Trees
+mod Places
+mod Laws
+mod Spokes
+mod Turns
+mod Written

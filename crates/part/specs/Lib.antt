@@ -1,0 +1,4 @@
+pub mod Buffer
+pub mod Links
+pub mod Forest
+pub mod Passes
