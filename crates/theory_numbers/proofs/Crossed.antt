@@ -121,13 +121,13 @@ ends-at-top (pt x y z) (off a b c) (off d e g) =
     step true n e = refl
     step false n e = absurd (omega arith)
 
-upper-up : (p : Point) (o : Offset) → upper (edge p (p ⊕ o)) ≡ p ⊕ o
+pub upper-up : (p : Point) (o : Offset) → upper (edge p (p ⊕ o)) ≡ p ⊕ o
 upper-up (pt x y z) (off a b c) = upper-at (pt x y z) lowest (off a b c)
 
 upper-turned : (p q : Point) → upper (edge p q) ≡ upper (edge q p)
 upper-turned (pt a b c) (pt d e g) = λ i. pt (max-comm a d i) (max-comm b e i) (max-comm c g i)
 
-upper-down : (p : Point) (o : Offset) → upper (edge (p ⊕ o) p) ≡ p ⊕ o
+pub upper-down : (p : Point) (o : Offset) → upper (edge (p ⊕ o) p) ≡ p ⊕ o
 upper-down p o = upper-turned (p ⊕ o) p ∙ upper-up p o
 
 -- the upper end is one of the ends

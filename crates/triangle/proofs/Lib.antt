@@ -1,0 +1,10 @@
+pub mod Cubes
+pub mod Buffers
+pub mod Slots
+pub mod Tables
+pub mod Growth
+pub mod Corners
+pub mod Steps
+pub mod Pieces
+pub mod Counting
+pub mod Building
