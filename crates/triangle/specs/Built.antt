@@ -24,6 +24,13 @@ short-buffer bs corners triangles work =
 abbrev pub verdict : List ℕ → ℕ → ℕ → ℕ → Option Refusal
 verdict bs corners triangles work = first-of (refusal-of bs) (short-buffer bs corners triangles work)
 
+-- the counts of a block's skin, where the block is taken
+pub record Needed (bs : List ℕ) (r : Counts) : Type 0 where
+  pub taken : refusal-of bs ≡ None
+  pub corner-count : r .corners ≡ length (corners-of bs)
+  pub triangle-count : r .triangles ≡ length (skin-of bs)
+  pub at-most-six : r .corners ≤ 6 * ((size-x bs - 1) * (size-y bs - 1) * (size-z bs - 1))
+
 -- refused: all three buffers are as they were
 pub record Refused (bs corners triangles work corners′ triangles′ work′ : List ℕ) (e : Refusal) : Type 0 where
   pub reason : verdict bs (length corners) (length triangles) (length work) ≡ Some e

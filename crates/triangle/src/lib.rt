@@ -2,8 +2,9 @@
 ghost use mathlib.Core.Path.{_≡_};
 ghost use Prim.Native.Nat.{_*_};
 ghost use Rattle.std.specs.Results.{Cases};
-ghost use Rattle.block.specs.Scan.{bytes-in, size-x, size-y, size-z};
-ghost use Rattle.triangle.specs.Built.{Built, Refused};
+ghost use Rattle.std.specs.declared.option.Option.the-variants.{Some};
+ghost use Rattle.block.specs.Scan.{bytes-in, size-x, size-y, size-z, refusal-of};
+ghost use Rattle.triangle.specs.Built.{Built, Needed, Refused};
 mod count;
 mod cube;
 mod write;
@@ -39,6 +40,14 @@ pub fn build(bytes: &[u8], corners: &mut [u32], triangles: &mut [u32], work: &mu
     }
     write_block(&block, corners, triangles, work);
     Ok(counts)
+}
+
+// How many corners and triangles the skin of a block has: buffers that hold as many are long enough for them. One pass over the cubes.
+pub fn needed(bytes: &[u8]) -> Result<Counts, Refusal>
+    ensures cases { λ r. ⌜ Cases r (Needed (now (bytes .entry))) (λ e. refusal-of (now (bytes .entry)) ≡ Some e) ⌝ }
+{
+    let block = Block::read(bytes)?;
+    Ok(count_block(&block))
 }
 
 fn points(block: &Block) -> usize
