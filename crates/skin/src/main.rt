@@ -1,35 +1,40 @@
-// skin BLOCK: reads a scan, and says what it read or why it is refused.
-use block::Block;
+// skin BLOCK [OUT]: builds the skin of a scan, says what it has, and writes its bytes to OUT if that is named.
+mod input;
+mod made;
+mod output;
+
 use block::RefusalDisplay;
+use input::contents;
+use made::Skin;
+use made::Trouble;
+use made::skin_of;
+use output::save;
 use std::env;
 use std::error::AnyError;
-use std::fs;
-use std::io;
-use std::io::Read;
 
-const USAGE: &str = "usage: skin BLOCK
-BLOCK is a file of a block's bytes, or - for standard input.
+const USAGE: &str = "usage: skin BLOCK [OUT]
+BLOCK is a file of a block's bytes, or - for standard input. The skin's bytes are written to OUT, if it is named.
 A block that is refused is answered by 'refused N at P', and status 1.";
-
-// The longest block, and one byte more: what follows cannot change the answer.
-const MOST_BYTES: usize = 4 + 96 * 96 * 96 + 1;
 
 fn main(rt: LibcRuntime) -> Result<(), AnyError> {
     let args: Vec<String> = env::args(&rt)?.skip(1).collect(rt.alloc())?;
-    if args.len() != 1 {
-        rt.eprintln(USAGE)?;
-        return Err("wrong use".into());
-    }
-    if args[0] == "--help" {
+    if args.len() == 1 && args[0] == "--help" {
         rt.println(USAGE)?;
         return Ok(());
     }
-    run(&rt, args[0].as_str())
+    if args.len() == 1 {
+        return run(&rt, args[0].as_str(), "");
+    }
+    if args.len() == 2 {
+        return run(&rt, args[0].as_str(), args[1].as_str());
+    }
+    rt.eprintln(USAGE)?;
+    Err("wrong use".into())
 }
 
-fn run(rt: &LibcRuntime, name: &str) -> Result<(), AnyError> {
+fn run(rt: &LibcRuntime, name: &str, out: &str) -> Result<(), AnyError> {
     match contents(rt, name) {
-        Ok(bytes) => report(rt, bytes.as_slice()),
+        Ok(bytes) => build(rt, bytes.as_slice(), name, out),
         Err(e) => {
             eprintln!(rt, "skin: {name}: {e}")?;
             Err("not read".into())
@@ -37,43 +42,31 @@ fn run(rt: &LibcRuntime, name: &str) -> Result<(), AnyError> {
     }
 }
 
-// The bytes of a file, or of standard input.
-fn contents(rt: &LibcRuntime, name: &str) -> io::Result<Vec<u8>> {
-    if name == "-" {
-        return beginning(rt, rt.stdin());
-    }
-    beginning(rt, fs::open(rt, name)?)
-}
-
-// At most as many bytes as can matter, give or take a part.
-fn beginning<R: Read + Drop>(rt: &LibcRuntime, mut from: R) -> io::Result<Vec<u8>> {
-    let mut bytes = Vec::new(rt.alloc());
-    for _ in 0..MOST_BYTES {
-        if bytes.len() >= MOST_BYTES || next_part(&mut from, &mut bytes)? == 0 {
-            break;
-        }
-    }
-    Ok(bytes)
-}
-
-fn next_part<R: Read>(from: &mut R, bytes: &mut Vec<u8>) -> io::Result<usize> {
-    let mut part = [0u8; 4096];
-    let n = from.read(&mut part)?;
-    bytes.extend_from_slice(&part[0..n])?;
-    Ok(n)
-}
-
-fn report(rt: &LibcRuntime, bytes: &[u8]) -> Result<(), AnyError> {
-    match Block::read(bytes) {
-        Ok(block) => {
-            let (a, b, c) = (block.size_x(), block.size_y(), block.size_z());
-            let t = block.threshold();
-            println!(rt, "block {a} by {b} by {c} threshold {t}")?;
-            Ok(())
-        }
-        Err(refusal) => {
+fn build(rt: &LibcRuntime, bytes: &[u8], name: &str, out: &str) -> Result<(), AnyError> {
+    match skin_of(rt.alloc(), bytes) {
+        Ok(skin) => report(rt, &skin, out),
+        Err(Trouble::Refused(refusal)) => {
             rt.println(refusal)?;
             Err("refused".into())
         }
+        Err(Trouble::NoMemory) => {
+            eprintln!(rt, "skin: {name}: not enough memory for its skin")?;
+            Err("no memory".into())
+        }
     }
+}
+
+// The file first: what is printed is then true of it.
+fn report(rt: &LibcRuntime, skin: &Skin, out: &str) -> Result<(), AnyError> {
+    if !out.is_empty() {
+        if let Err(e) = save(rt, skin, out) {
+            eprintln!(rt, "skin: {out}: {e}")?;
+            return Err("not written".into());
+        }
+    }
+    let corners = skin.counts.corners;
+    let triangles = skin.counts.triangles;
+    let parts = skin.parts;
+    println!(rt, "corners {corners} triangles {triangles} parts {parts}")?;
+    Ok(())
 }
