@@ -8,10 +8,12 @@ use lib.Dec.{eqb}
 use lib.ListN.{length, getD}
 use Rattle.std.proofs.shelf.Tests.{eqb-true, eq-eqb}
 use Rattle.theory.specs.Triangle.{Tri, tri, has}
+use Rattle.theory_numbers.specs.Numbers.{numbered}
+use Rattle.theory_numbers.proofs.Numbered.{numbers-closed}
 use Rattle.theory_parts.specs.Parts.{Joined, Linked}
 use Rattle.theory_parts.proofs.Joining.{joined-as-linked}
 use Rattle.theory_parts.proofs.Numbering.{in-turn-once}
-use Rattle.part.specs.Links.{first-corner, By-links, Only-by-links, Links-number-parts}
+use Rattle.part.specs.Links.{first-corner, By-links, Only-by-links, Links-number-parts, Skins-numbered}
 use Rattle.part.proofs.Places.{stands-some, has-one}
 
 -- what By-links says of two triangles, by their places alone
@@ -42,3 +44,8 @@ links-number-parts ts ps n ringed L = record { long = L .long; alike = alike; in
         let r = stands-some ts j k in
         Iff·trans (at-places ts ps n L i j h k)
         (Iff·symm (joined-as-linked eqb eqb-true (λ m. eq-eqb m m refl) ts ringed i j (s .0) (r .0) (s .1) (r .1) _ _ (has-first (s .0)) (has-first (r .0))))
+
+pub skins-numbered : Skins-numbered
+skins-numbered f x y z border ps n L =
+    let closed = numbers-closed f x y z border in
+    links-number-parts (numbered f x y z) ps n (λ c on. closed .ring c (closed .occurs c .0 on)) L

@@ -1,12 +1,15 @@
 -- The numbers of the parts by linked corners: what is written, that it is one numbering, and that where there are rings it is the
 -- numbering of the parts by common sides. Assumes nothing.
 use mathlib.Core.Path.{_≡_}
+use mathlib.Core.Bool.{Bool}
 use mathlib.Core.List.{List}
 use mathlib.Core.Logic.{_↔_}
 use Prim.Native.Nat.{ℕ}
 use lib.Dec.{eqb}
 use lib.ListN.{length, getD}
+use Rattle.theory.specs.Grid.{Point, Border}
 use Rattle.theory.specs.Triangle.{Tri, tri}
+use Rattle.theory_numbers.specs.Numbers.{numbered}
 use Rattle.theory_parts.specs.Parts.{Stands, In-turn, Linked, Ringed, Numbered}
 use Rattle.part.specs.Buffer.{triangles-in, parts-in, Takes}
 
@@ -42,3 +45,9 @@ Only-by-links = (ts : List (Tri ℕ)) (ps qs : List ℕ) (m n : ℕ) → By-link
 abbrev pub Links-number-parts : Type 0
 Links-number-parts =
     (ts : List (Tri ℕ)) (ps : List ℕ) (n : ℕ) → Ringed eqb ts → By-links ts ps n → Numbered eqb ts ps n
+
+-- THE PARTS OF A SKIN: of the triangles of any skin, by their corners' numbers, those are the parts
+abbrev pub Skins-numbered : Type 0
+Skins-numbered =
+    (f : Point → Bool) (x y z : ℕ) → Border f x y z →
+    (ps : List ℕ) (n : ℕ) → By-links (numbered f x y z) ps n → Numbered eqb (numbered f x y z) ps n

@@ -8,7 +8,7 @@ ghost use Rattle.std.specs.Options.{Cases};
 ghost use Rattle.theory_parts.specs.Parts.{In-turn};
 ghost use Rattle.part.specs.Forest.{Forest, Link, Alike};
 ghost use Rattle.part.specs.Buffer.{count-in, parts-in, In-range, Takes};
-ghost use Rattle.part.specs.Links.{Only-by-links, Links-number-parts, Refused, Written};
+ghost use Rattle.part.specs.Links.{Only-by-links, Links-number-parts, Skins-numbered, Refused, Written};
 ghost use Rattle.part.specs.Passes.{Plus-spokes, Rooted, Same-corners, Holds-roots, Parts-below, Same-parts, given-at};
 
 mod forest;
@@ -32,11 +32,12 @@ pub fn number_parts(triangles: &mut [u32], corners: u32, work: &mut [u32]) -> Op
     Some(give_numbers(triangles, roots))
 }
 
-// Whatever numbers the parts by linked corners numbers them as any other does, and where there is one ring around each corner it numbers
-// them by common sides.
+// Whatever numbers the parts by linked corners numbers them as any other does; where there is one ring around each corner it numbers them by
+// common sides, and so it does in every skin.
 pub fn links_number_parts() -> u8
     ensures only { λ _. ⌜ Only-by-links ⌝ }
     ensures parts { λ _. ⌜ Links-number-parts ⌝ }
+    ensures skins { λ _. ⌜ Skins-numbered ⌝ }
 {
     0
 }
