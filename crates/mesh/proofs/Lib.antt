@@ -1,4 +1,4 @@
 mod Ranges
-mod Numbers
+pub mod Numbers
 mod Puts
 mod Back

@@ -1,7 +1,7 @@
 mod Connection
 mod Trees
-mod Places
-mod Laws
+pub mod Places
+pub mod Laws
 mod Spokes
 mod Turns
 mod Written

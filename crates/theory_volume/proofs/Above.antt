@@ -6,12 +6,12 @@ use native.Mathlib.Nat.{mul-pos, mul-le-mul}
 use native.Mathlib.Decide.{decLe}
 use native.Mathlib.Omega.{arith}
 use Rattle.std.specs.Vec.{Every}
-use Rattle.theory.specs.Grid.{Point, pt, pieces}
+use Rattle.theory.specs.Grid.{Point, pt, pieces, Border}
 use Rattle.theory.specs.Triangle.{edge, sum-of, corners}
 use Rattle.theory.specs.Skin.{Corner, cut, in-piece}
 use Rattle.theory.specs.Faces.{sum-below, over-cubes}
 use Rattle.theory_volume.specs.Inside.{rest, one-inside, two-inside, three-inside, inside-part, inside-by, inside-piece, inside-sum, Above-zero}
-use Rattle.theory_volume.proofs.Corners.{Amid, pieces-amid}
+use Rattle.theory_volume.proofs.Corners.{Amid, Within-steps, in-range-within, pieces-amid}
 
 pub sum-below-at : (n i : ℕ) (h : ℕ → ℕ) → i < n → h i ≤ sum-below n h
 sum-below-at zero i h l = absurd (omega arith)
@@ -64,9 +64,14 @@ module _ (k : Corner → ℕ) where
               (sym e) (part-above (f q) (f r) (f s) p q r s) (a .0) in
       omega arith
 
-pub above-zero : Above-zero
+pub above-zero-within :
+    (f : Point → Bool) (x y z : ℕ) → Border f x y z → (k : Corner → ℕ) → Within-steps k f →
+    (p : Point) → f p ≡ true → 0 < inside-sum f k x y z
 unfolding inside-sum
-above-zero f x y z border k range (pt u v w) e =
+above-zero-within f x y z border k within (pt u v w) e =
     let amid = border (pt u v w) e in
-    let first = first-above k f u v w e (pieces-amid k f range (pt u v w)) in
+    let first = first-above k f u v w e (pieces-amid k f within (pt u v w)) in
     omega (arith, over-cubes-at x y z (λ p. sum-of (inside-piece f k p) pieces) u v w (amid .0 .1) (amid .1 .1) (amid .2 .1))
+
+pub above-zero : Above-zero
+above-zero f x y z border k range = above-zero-within f x y z border k (in-range-within k f range)

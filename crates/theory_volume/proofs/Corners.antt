@@ -1,5 +1,6 @@
 -- What holds of each edge that the skin crosses holds of the corners in every piece. Assumes nothing.
-use mathlib.Core.Bool.{Bool}
+use mathlib.Core.Path.{_≡_}
+use mathlib.Core.Bool.{Bool, true, false}
 use mathlib.Core.List.{List, [], _∷_, _++_}
 use Prim.Native.Nat.{ℕ, suc, _≤_}
 use native.Mathlib.Omega.{arith}
@@ -9,7 +10,8 @@ use Rattle.std.specs.Vec.{Every}
 use Rattle.theory.specs.Grid.{Point, pt, pieces}
 use Rattle.theory.specs.Triangle.{edge, corners}
 use Rattle.theory.specs.Skin.{Corner, Triangle, in-piece, cube, below, skin}
-use Rattle.theory.specs.Places.{In-range}
+use Rattle.theory.specs.Closed.{Neighbours}
+use Rattle.theory.specs.Places.{Amid-step, In-range}
 use Rattle.theory.proofs.Crossings.{Crossing, skin-crosses}
 
 every-parts : {A : Type 0} (P : A → Type 0) (xs ys : List A) → Every P (xs ++ ys) → Every P xs × Every P ys
@@ -47,16 +49,23 @@ module _ (k : Corner → ℕ) where
 
   -- … and at neither end of it
   abbrev pub Amid : Corner → Type 0
-  Amid c = (1 ≤ k c) × (k c ≤ 254)
+  Amid c = Amid-step (k c)
 
-  amid-of : (f : Point → Bool) → In-range f k → (c : Corner) → Crossing f c → Amid c
-  amid-of f range (edge p q) x = range p q (x .0) (x .1) (x .2)
+  -- k is strictly between the ends of each edge of the grid from a point inside to a point outside: all that the enclosed volume asks for
+  abbrev pub Within-steps : (Point → Bool) → Type 0
+  Within-steps f = (p q : Point) → Neighbours p q → f p ≡ true → f q ≡ false → Amid (edge p q)
 
-  pub pieces-amid : (f : Point → Bool) → In-range f k → (l : Point) → Every (λ w. Every (λ t. Every Amid (corners t)) (in-piece f l w)) pieces
-  pieces-amid f range = piece-corners Amid f (amid-of f range)
+  pub in-range-within : (f : Point → Bool) → In-range f k → Within-steps f
+  in-range-within f range p q n i o = let r = range p q n i o in omega arith
 
-  pub pieces-fit : (f : Point → Bool) → In-range f k → (l : Point) → Every (λ w. Every (λ t. Every Fits (corners t)) (in-piece f l w)) pieces
-  pieces-fit f range = piece-corners Fits f (λ c x. let a = amid-of f range c x in omega arith)
+  amid-of : (f : Point → Bool) → Within-steps f → (c : Corner) → Crossing f c → Amid c
+  amid-of f within (edge p q) x = within p q (x .0) (x .1) (x .2)
+
+  pub pieces-amid : (f : Point → Bool) → Within-steps f → (l : Point) → Every (λ w. Every (λ t. Every Amid (corners t)) (in-piece f l w)) pieces
+  pieces-amid f within = piece-corners Amid f (amid-of f within)
+
+  pub pieces-fit : (f : Point → Bool) → Within-steps f → (l : Point) → Every (λ w. Every (λ t. Every Fits (corners t)) (in-piece f l w)) pieces
+  pieces-fit f within = piece-corners Fits f (λ c x. let a = amid-of f within c x in omega arith)
 
 -- what follows of each element from two facts
 pub every-from-two :

@@ -6,18 +6,19 @@ use mathlib.Core.List.{List, [], _∷_}
 use Prim.Native.Nat.{ℕ, _+_, _*_}
 use native.Mathlib.Nat.{zero-mul}
 use native.Mathlib.Omega.{arith}
+use lib.IntN.{pos}
 use Rattle.std.specs.Vec.{Every}
 use Rattle.theory.specs.Grid.{Point, pt, Offset, _⊕_, Piece, way, pieces, Border}
 use Rattle.theory.specs.Triangle.{sum-of, corners}
 use Rattle.theory.specs.Skin.{Corner, Triangle, cut-by, in-piece, cube, skin}
 use Rattle.theory.specs.Faces.{Face, face, turn, carried, against, with-clock, over-cubes, over-faces}
-use Rattle.theory.specs.Places.{Place, place, In-range}
+use Rattle.theory.specs.Places.{Place, place}
 use Rattle.theory.proofs.Sums.{sum-joined, sum-skin, sum-cube}
 use Rattle.theory.proofs.Law.{face-law, over-cubes-add}
-use Rattle.theory_volume.specs.Volume.{diagonals}
+use Rattle.theory_volume.specs.Volume.{diagonals, six-volume}
 use Rattle.theory_volume.specs.Inside.{inside-by, inside-piece, inside-sum, Encloses}
 use Rattle.theory_volume.proofs.Signs.{falling, rising, six-volume-parts, minus-equal}
-use Rattle.theory_volume.proofs.Corners.{Fits, pieces-fit, every-from-two}
+use Rattle.theory_volume.proofs.Corners.{Fits, Within-steps, in-range-within, pieces-fit, every-from-two}
 use Rattle.theory_volume.proofs.Balance.{mark, share, Settled}
 use Rattle.theory_volume.proofs.Patterns.{settled}
 
@@ -87,11 +88,11 @@ module _ (f : Point → Bool) (k : Corner → ℕ) where
   sum-balanced u a b w c d v (x ∷ xs) e = let h = sum-balanced u a b w c d v xs (e .1) in omega arith
 
   cube-balanced :
-      In-range f k → (l : Point) →
+      Within-steps k f → (l : Point) →
       sum-of (falling (place k)) (cube f l) + (over-faces shared against l + over-faces shared-back with-clock l)
       ≡ sum-of (rising (place k)) (cube f l) + (over-faces shared-back against l + over-faces shared with-clock l)
         + sum-of (inside-piece f k l) pieces
-  cube-balanced range l =
+  cube-balanced within l =
       transport
         (λ i. cubes falling i + (faced shared against i + faced shared-back with-clock i)
               ≡ cubes rising i + (faced shared-back against i + faced shared with-clock i) + sum-of (inside-piece f k l) pieces)
@@ -99,7 +100,7 @@ module _ (f : Point → Bool) (k : Corner → ℕ) where
           (λ w. sum-of (rising (place k)) (in-piece f l w)) (λ w. over shared-back l (against w)) (λ w. over shared l (with-clock w))
           (inside-piece f k l) pieces
           (every-from-two _ _ (Balanced l) (piece-balanced l) pieces
-            (pieces-fit k f range l) (pieces-upright l)))
+            (pieces-fit k f within l) (pieces-upright l)))
     where
       cubes : (h : (Corner → Place) → Triangle → ℕ) →
         sum-of (λ w. sum-of (h (place k)) (in-piece f l w)) pieces ≡ sum-of (h (place k)) (cube f l)
@@ -113,16 +114,21 @@ module _ (f : Point → Bool) (k : Corner → ℕ) where
 
   -- over all cubes the shares of the faces are as many on either side
   enclosed-sums :
-      (x y z : ℕ) → Border f x y z → In-range f k →
+      (x y z : ℕ) → Border f x y z → Within-steps k f →
       sum-of (falling (place k)) (skin f x y z) ≡ sum-of (rising (place k)) (skin f x y z) + inside-sum f k x y z
   unfolding inside-sum
-  enclosed-sums x y z border range =
+  enclosed-sums x y z border within =
       transport
         (λ i. sym (sum-skin (falling (place k)) f x y z) i
               ≡ sym (sum-skin (rising (place k)) f x y z) i + over-cubes x y z (λ l. sum-of (inside-piece f k l) pieces))
-        (cancelled x y z (λ l. sum-of (falling (place k)) (cube f l)) _ _ (λ l. sum-of (rising (place k)) (cube f l)) _ _ _ (cube-balanced range)
+        (cancelled x y z (λ l. sum-of (falling (place k)) (cube f l)) _ _ (λ l. sum-of (rising (place k)) (cube f l)) _ _ _ (cube-balanced within)
           (face-law f x y z border shared share-none) (face-law f x y z border shared-back (λ p q r a b c. share-none p r q a c b)))
 
+pub encloses-within :
+    (f : Point → Bool) (x y z : ℕ) → Border f x y z → (k : Corner → ℕ) → Within-steps k f →
+    six-volume (place k) (skin f x y z) ≡ pos (inside-sum f k x y z)
+encloses-within f x y z border k within =
+    six-volume-parts (place k) (skin f x y z) ∙ minus-equal _ _ _ (enclosed-sums f k x y z border within)
+
 pub encloses : Encloses
-encloses f x y z border k range =
-    six-volume-parts (place k) (skin f x y z) ∙ minus-equal _ _ _ (enclosed-sums f k x y z border range)
+encloses f x y z border k range = encloses-within f x y z border k (in-range-within k f range)

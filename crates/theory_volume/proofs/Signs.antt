@@ -37,7 +37,7 @@ pub determinant-round : (p q r : Place) → determinant q r p ≡ determinant p 
 unfolding determinant
 determinant-round p q r = ap₂ (λ m n. pos m -ℤ pos n) (sym (cyclic p q r)) (cyclic q p r)
 
-minus-turned : (u w : ℕ) → pos w -ℤ pos u ≡ negℤ (pos u -ℤ pos w)
+pub minus-turned : (u w : ℕ) → pos w -ℤ pos u ≡ negℤ (pos u -ℤ pos w)
 minus-turned u w = omega (arith, ints)
 
 pub six-volume-turned : {C : Type 0} (at : C → Place) (ts : List (Tri C)) → six-volume at (map turned ts) ≡ negℤ (six-volume at ts)

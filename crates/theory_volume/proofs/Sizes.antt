@@ -20,7 +20,7 @@ use Rattle.theory.proofs.Patterns.{piece-cut, in-piece-at, pattern-at}
 use Rattle.theory.proofs.Bounds.{sum-le}
 use Rattle.theory_volume.specs.Volume.{determinant, six-volume}
 use Rattle.theory_volume.specs.Sizes.{most-cubes, most-coordinate, Coordinates-to, Small, most-triangles, Sums-fit, Twelve-a-cube}
-use Rattle.theory_volume.proofs.Corners.{Fits, pieces-fit, every-from-two}
+use Rattle.theory_volume.proofs.Corners.{Fits, in-range-within, pieces-fit, every-from-two}
 use Rattle.theory_volume.proofs.Steps.{sum-size}
 use Rattle.theory_volume.proofs.Cubes.{most-lowest, In-cube, piece-in-cube, in-cube-small, in-cube-coordinates}
 
@@ -58,7 +58,7 @@ every-within P f x y z a =
 in-cubes :
     (k : Corner → ℕ) (f : Point → Bool) → In-range f k → (l : Point) →
     Every (λ o. Every (λ t. Every (λ c. In-cube l (place k c)) (corners t)) (in-piece f l o)) pieces
-in-cubes k f range l = all-weaker _ _ each pieces (pieces-fit k f range l)
+in-cubes k f range l = all-weaker _ _ each pieces (pieces-fit k f (in-range-within k f range) l)
   where
     each : (o : Piece) → Every (λ t. Every (Fits k) (corners t)) (in-piece f l o) →
       Every (λ t. Every (λ c. In-cube l (place k c)) (corners t)) (in-piece f l o)

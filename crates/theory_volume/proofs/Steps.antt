@@ -20,11 +20,11 @@ negative-size : (n : ℕ) → natAbs (negℤ (pos n)) ≡ n
 negative-size zero = refl
 negative-size (suc n) = refl
 
-product-size : (a : ℕ) (x : ℤ) (m n : ℕ) → a ≤ m → natAbs x ≤ n → natAbs (pos a *ℤ x) ≤ m * n
+pub product-size : (a : ℕ) (x : ℤ) (m n : ℕ) → a ≤ m → natAbs x ≤ n → natAbs (pos a *ℤ x) ≤ m * n
 product-size a (pos x) m n l h = mul-le-mul l h
 product-size a (negsuc x) m n l h = subst (λ v. v ≤ m * n) (sym (negative-size (a * suc x))) (mul-le-mul l h)
 
-crossed-size : (e g i j m : ℕ) → e ≤ m → g ≤ m → i ≤ m → j ≤ m → natAbs (crossed e g i j) ≤ m * m
+pub crossed-size : (e g i j m : ℕ) → e ≤ m → g ≤ m → i ≤ m → j ≤ m → natAbs (crossed e g i j) ≤ m * m
 crossed-size e g i j m le lg li lj =
     let p = mul-le-mul le lj in let q = mul-le-mul lg li in minus-size (e * j) (g * i) (m * m) (omega arith) (omega arith)
 
@@ -38,7 +38,7 @@ three-minus : (p p' q q' r r' : ℕ) →
     ((pos p -ℤ pos p') +ℤ (pos q -ℤ pos q')) +ℤ (pos r -ℤ pos r') ≡ pos (p + (q + r)) -ℤ pos (p' + (q' + r'))
 three-minus p p' q q' r r' = omega (arith, ints)
 
-worked-value : (a b c d e g h i j : ℕ) →
+pub worked-value : (a b c d e g h i j : ℕ) →
     ((pos a *ℤ crossed e g i j) +ℤ (pos b *ℤ crossed g d j h)) +ℤ (pos c *ℤ crossed d e h i)
     ≡ determinant (pt a b c) (pt d e g) (pt h i j)
 unfolding determinant

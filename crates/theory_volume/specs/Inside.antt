@@ -14,7 +14,7 @@ use Rattle.theory_volume.specs.Volume.{six-volume}
 abbrev pub whole : ℕ
 whole = 256 * (256 * 256)
 
--- what is left of an edge beyond a corner that lies k 256ths of the way along it; k is at most 254, so nothing is cut off here or below
+-- what is left of an edge beyond a corner that lies k 256ths of the way along it; k is at most 256, so nothing is cut off here or below
 abbrev pub rest : ℕ → ℕ
 rest k = 256 - k
 

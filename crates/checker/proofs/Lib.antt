@@ -1,0 +1,8 @@
+mod Verdicts
+mod Reading
+mod Linking
+mod Sides
+mod Cycles
+mod Rings
+mod Compared
+mod Deciding
