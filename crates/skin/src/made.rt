@@ -7,6 +7,8 @@ use std::alloc::Global;
 use triangle::Counts;
 use triangle::build;
 use triangle::needed;
+use volume::Part;
+use volume::measure;
 
 // Three coordinates for each corner, four numbers for each triangle: its corners' and its part's.
 #[derive(Drop)]
@@ -14,7 +16,7 @@ pub struct Skin {
     pub corners: Vec<u32>,
     pub triangles: Vec<u32>,
     pub counts: Counts,
-    pub parts: u32,
+    pub parts: Vec<Part>,
 }
 
 // Why there is no skin.
@@ -37,14 +39,17 @@ pub impl From<AllocError> for Trouble as TroubleFromAlloc {
 }
 
 // Buffers just as long as the skin wants them. There is a number in `work` for each corner, since there are at most six corners for each
-// cube, and each corner's number is below their count: so the parts are numbered.
+// cube, and each corner's number is below their count: so the parts are numbered. And no skin is too large to be measured.
 pub fn skin_of(heap: Global, bytes: &[u8]) -> Result<Skin, Trouble> {
     let room = needed(bytes)?;
     let mut corners = vec![in heap; 0u32; 3 * room.corners as usize]?;
     let mut triangles = vec![in heap; 0u32; 4 * room.triangles as usize]?;
     let mut work = vec![in heap; 0u32; points(bytes).saturating_mul(6)]?;
     let counts = build(bytes, corners.as_mut_slice(), triangles.as_mut_slice(), work.as_mut_slice())?;
-    let parts = number_parts(triangles.as_mut_slice(), counts.corners, work.as_mut_slice()).unwrap_or(0);
+    let count = number_parts(triangles.as_mut_slice(), counts.corners, work.as_mut_slice()).unwrap_or(0);
+    let none = Part::Inner { triangles: 0, six_volumes: 0 };
+    let mut parts = vec![in heap; none; count as usize]?;
+    let _measured = measure(corners.as_slice(), triangles.as_slice(), parts.as_mut_slice());
     Ok(Skin { corners, triangles, counts, parts })
 }
 

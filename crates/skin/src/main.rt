@@ -8,9 +8,12 @@ use input::contents;
 use made::Skin;
 use made::Trouble;
 use made::skin_of;
+use output::parts_of;
 use output::save;
 use std::env;
 use std::error::AnyError;
+use std::io;
+use volume::Part;
 
 const USAGE: &str = "usage: skin BLOCK [OUT]
 BLOCK is a file of a block's bytes, or - for standard input. The skin's bytes are written to OUT, if it is named.
@@ -66,7 +69,17 @@ fn report(rt: &LibcRuntime, skin: &Skin, out: &str) -> Result<(), AnyError> {
     }
     let corners = skin.counts.corners;
     let triangles = skin.counts.triangles;
-    let parts = skin.parts;
+    let parts = parts_of(skin);
     println!(rt, "corners {corners} triangles {triangles} parts {parts}")?;
+    for (i, part) in skin.parts.iter().enumerate() {
+        show(rt, i, *part)?;
+    }
     Ok(())
+}
+
+fn show(rt: &LibcRuntime, i: usize, part: Part) -> io::Result<()> {
+    match part {
+        Part::Outer { triangles, six_volumes } => println!(rt, "part {i} outer triangles {triangles} six volumes {six_volumes}"),
+        Part::Inner { triangles, six_volumes } => println!(rt, "part {i} inner triangles {triangles} six volumes {six_volumes}"),
+    }
 }
