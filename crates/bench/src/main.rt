@@ -1,4 +1,6 @@
 // bench BLOCK..: how long each stage of the work on a block takes.
+#![tactic(auto)]
+
 mod rounds;
 mod spans;
 

@@ -121,7 +121,7 @@ pub fn run(rt: &HostRuntime, bytes: &[u8], to: &mut Buffers) -> anyhow::Result<O
         to.parts.as_mut_slice(),
     );
     let making = watch.lap(rt)?;
-    stream(to, counts, count)?;
+    stream(rt.alloc(), to, counts, count)?;
     let streaming = watch.lap(rt)?;
     if !measured || length.is_none() || verdict.is_err() || made.is_err() {
         return Err(anyhow!("not measured, written and accepted"));
@@ -145,8 +145,8 @@ pub fn run(rt: &HostRuntime, bytes: &[u8], to: &mut Buffers) -> anyhow::Result<O
 }
 
 // The bytes of a skin as `skin` writes them, to nowhere.
-fn stream(from: &Buffers, counts: Counts, parts: u32) -> io::Result<()> {
-    let mut to = BufWriter::new(io::sink());
+fn stream(heap: Global, from: &Buffers, counts: Counts, parts: u32) -> io::Result<()> {
+    let mut to = BufWriter::new(heap, io::sink())?;
     to.write_all(&header_bytes(counts.corners, counts.triangles, parts))?;
     for corner in from.corners.chunks_exact(3) {
         to.write_all(&corner_bytes(short(corner[0]), short(corner[1]), short(corner[2])))?;

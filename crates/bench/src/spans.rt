@@ -63,6 +63,6 @@ pub fn sorted(heap: Global, rounds: &[Spans], stage: usize) -> Result<Vec<u64>, 
             nanos.push(u64::try_from(span.as_nanos()).unwrap_or(u64::MAX))?;
         }
     }
-    nanos.sort();
+    nanos.sort()?;
     Ok(nanos)
 }

@@ -1,4 +1,6 @@
 // A scan as a block of values on a grid: read from its bytes, or refused by a number and a place.
+#![tactic(auto)]
+
 ghost use Rattle.std.specs.Prelude.{◌≡◌, ℕ, ◌^◌, ◌<◌, List, [], ◌∷◌, length, Some, None, MatchResult, slice_index};
 ghost use Rattle.theory.specs.Grid.{Point, pt};
 ghost use Rattle.block.specs.Scan.{bytes_in, in_range, at_end, size_x, size_y, size_z, threshold, byte_of, value_of, within, inside, on_border, row, layer, points, fault_at, faults, header_fault, excess, refusal_of, Taken, TakenIfGood};

@@ -1,4 +1,6 @@
 // A checker for skins from anywhere: the verdict on a skin's bytes, whatever they hold.
+#![tactic(auto)]
+
 ghost use Rattle.std.specs.Prelude.{◌≡◌, ℕ, ◌+◌, ◌*◌, ◌^◌, ◌<◌, ◌≤◌, true, false, ◌↔◌, length, Some, None, MatchResult, nat_eq, slice_index};
 ghost use Rattle.theory.specs.Closed.{EachSideOnce};
 ghost use Rattle.theory.specs.Triangle.{with_corner};

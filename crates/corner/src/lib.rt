@@ -1,4 +1,6 @@
 // Where a corner of the skin lies on its edge, and how its coordinates are written into a buffer of the caller's.
+#![tactic(auto)]
+
 ghost use Rattle.std.specs.Prelude.{◌≡◌, ◌+◌, ◌*◌, ◌<◌, ◌≤◌, length};
 ghost use Rattle.theory.specs.Places.{between};
 ghost use Rattle.corner.specs.Fraction.{fraction_of, FractionsInRange};

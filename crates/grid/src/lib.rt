@@ -1,4 +1,6 @@
 // The points and the edges of a grid, and their numbers: found by a sum, and undone by division.
+#![tactic(auto)]
+
 ghost use Rattle.std.specs.Prelude.{◌≡◌, ◌*◌, ◌^◌, ◌<◌};
 ghost use Rattle.std.specs.Option.{option_map};
 ghost use Rattle.grid.specs.Places.{at, rise, EndsJoined};

@@ -1,4 +1,6 @@
 // A skin as the printer's bytes: read, a number at a time, and written, at once or as one goes.
+#![tactic(auto)]
+
 ghost use Rattle.std.specs.Prelude.{◌≡◌, ◌+◌, ◌*◌, ◌%◌, ◌^◌, ◌<◌, true, length, take, IfSome, Some, None, MatchResult, slice_index};
 ghost use Rattle.std.specs.List.{flat_map};
 ghost use Rattle.mesh.specs.Bytes.{bytes_in, short_at, number_at, corner_count, triangle_count, part_count, coordinates_in, triangles_in, length_fault, Counted};

@@ -1,4 +1,6 @@
 // The parts of a skin: which triangles hang together, numbered by their first triangle.
+#![tactic(auto)]
+
 ghost use Rattle.std.specs.Prelude.{◌≡◌, ◌^◌, ◌<◌, true, ◌↔◌, length, MatchOption, slice_index};
 ghost use Rattle.theory_parts.specs.Parts.{InTurn};
 ghost use Rattle.part.specs.Forest.{Forest, Link, Alike};

@@ -1,4 +1,6 @@
 // The six pieces of a cube, and the triangles in a piece for each case of which of its points are inside: constants, read by an index.
+#![tactic(auto)]
+
 ghost use Rattle.std.specs.Prelude.{◌≡◌, length};
 ghost use Rattle.piece.specs.Table.{point_of, triangles_in, as_edge, corner_of, CutByTable};
 

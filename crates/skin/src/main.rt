@@ -1,4 +1,6 @@
 // skin BLOCK [OUT]: builds the skin of a scan, says what it has, and writes its bytes to OUT if that is named.
+#![tactic(auto)]
+
 mod input;
 mod made;
 mod output;
@@ -16,7 +18,7 @@ A block that is refused is answered by 'refused N at P', and status 1.";
 
 fn main(rt: HostRuntime) -> anyhow::Result<()> {
     let args: Vec<String> = env::args(&rt)?.skip(1).collect(rt.alloc())?;
-    if args.len() == 1 && args[0] == "--help" {
+    if args.len() == 1 && args[0].as_str() == "--help" {
         rt.println(USAGE)?;
         return Ok(());
     }

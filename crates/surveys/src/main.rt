@@ -1,4 +1,6 @@
 // Trials of what is also proved: worked blocks, random blocks, and damaged skins. Status 1 if anything is not as expected.
+#![tactic(auto)]
+
 use anyhow::anyhow;
 
 mod at_random;

@@ -1,4 +1,6 @@
 // What is proved of every skin, whatever is inside: one small function for each theorem, whose contract is the theorem.
+#![tactic(auto)]
+
 ghost use Rattle.theory.specs.Closed.{Closed, WholeTriangles, OneRing, Parted, NothingOpen};
 ghost use Rattle.theory.specs.Faces.{PiecesMeet, CubesMeet, PiecesTurned, FacesDecide, FaceLaw, FacesSigned};
 ghost use Rattle.theory.specs.Places.{LieBetweenEnds, StepKnown, StrictlyWithin, EitherEnd, NoTwoAtOnePlace, CrossedOnce};

@@ -1,5 +1,7 @@
 // What is promised of a skin holds of it as it stands in buffers, corners by numbers: one small function for each theorem, whose contract
 // is the theorem.
+#![tactic(auto)]
+
 ghost use Rattle.theory_buffers.specs.ByNumber.{SkinsByNumber, SkinsSizedByNumber, SkinsPartedByNumber};
 
 // Each step of the grid is crossed as its ends say, no two numbers have one place, and the triangles enclose what is inside.

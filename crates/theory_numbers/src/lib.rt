@@ -1,5 +1,7 @@
 // What is proved of numbering a skin's corners in the order in which triangles meet them: one small function for each theorem, whose
 // contract is the theorem.
+#![tactic(auto)]
+
 ghost use Rattle.theory_numbers.specs.Numbers.{CornersNumberedOnce, AsTheyAreMet, NumberedSkinsClosed, AtMostSix};
 ghost use Rattle.theory_numbers.specs.Order.{CubesInOrder, EndsAtTop, CornersFirstMet};
 

@@ -1,4 +1,6 @@
 // The parts of a skin: one small function for each theorem, whose contract is the theorem.
+#![tactic(auto)]
+
 ghost use Rattle.std.specs.Prelude.{nat_eq};
 ghost use Rattle.theory.specs.Skin.{same};
 ghost use Rattle.theory_parts.specs.Parts.{OnlyNumbering, CornersJoin, NoCornerInTwoParts, JoinedAsLinked};

@@ -1,5 +1,7 @@
 // What each part of a skin encloses, and that the parts make up the whole: one small function for each theorem, whose contract is the
 // theorem.
+#![tactic(auto)]
+
 ghost use Rattle.std.specs.Prelude.{nat_eq};
 ghost use Rattle.theory.specs.Skin.{same};
 ghost use Rattle.theory_solids.specs.Adding.{PartsAddUp, PartsCounted};

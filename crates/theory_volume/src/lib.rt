@@ -1,4 +1,6 @@
 // What is proved of the volume that a skin encloses: one small function for each theorem, whose contract is the theorem.
+#![tactic(auto)]
+
 ghost use Rattle.theory_volume.specs.Inside.{Encloses, AboveZero, WorkedVolume};
 ghost use Rattle.theory_volume.specs.Sizes.{SumsFit, StepsFit, TwelveACube};
 ghost use Rattle.theory_volume.specs.Volume.{TurnedInsideOut};

@@ -1,4 +1,6 @@
 // The worked blocks: each is built, its parts are numbered and measured, its bytes are written and checked; what it has is printed.
+#![tactic(auto)]
+
 use checker::{check, work_needed};
 use part::number_parts;
 use std::alloc::{AllocError, Global};

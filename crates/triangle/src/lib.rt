@@ -1,4 +1,6 @@
 // From a block's bytes to its corners and triangles, in a fixed order, in buffers of the caller's.
+#![tactic(auto)]
+
 ghost use Rattle.std.specs.Prelude.{◌≡◌, ◌*◌, Some, MatchResult};
 ghost use Rattle.block.specs.Scan.{bytes_in, size_x, size_y, size_z, refusal_of};
 ghost use Rattle.triangle.specs.Built.{Built, Needed, Refused};

@@ -1,4 +1,6 @@
 // The volumes of a skin's parts: how many triangles each part has, and six times the volume that it encloses.
+#![tactic(auto)]
+
 ghost use Rattle.std.specs.Prelude.{◌≡◌, ◌+◌, ◌*◌, ◌^◌, ◌<◌, ◌≤◌, true, false, length, ℤ, ◌+ℤ◌, unsigned_abs};
 ghost use Rattle.theory.specs.Grid.{pt};
 ghost use Rattle.theory_volume.specs.Volume.{determinant};

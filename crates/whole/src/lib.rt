@@ -1,4 +1,6 @@
 // From a block's bytes to its finished skin: corners, triangles, parts and volumes, in buffers of the caller's.
+#![tactic(auto)]
+
 ghost use Rattle.std.specs.Result.{MatchResult};
 ghost use Rattle.whole.specs.Finished.{Finished, Refused};
 

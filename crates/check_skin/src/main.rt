@@ -1,4 +1,6 @@
 // check SKIN: says whether a skin's bytes, from anywhere, are a closed skin, or which rule is in fault and where.
+#![tactic(auto)]
+
 use anyhow::anyhow;
 use block::Refusal;
 use checker::{check, work_needed};
@@ -17,7 +19,7 @@ fn main(rt: HostRuntime) -> anyhow::Result<()> {
         rt.eprintln(USAGE)?;
         return Err(anyhow!("wrong use"));
     }
-    if args[0] == "--help" {
+    if args[0].as_str() == "--help" {
         rt.println(USAGE)?;
         return Ok(());
     }
