@@ -6,12 +6,12 @@ use Rattle.checker.proofs.closed_fault.Goals as goal
 pub returns-in-Some : goal.returns-in-Some
 returns-in-Some c = record { verdict = fault c.in-Some.ensures.found }
 
-pub ring-fault-requires : goal.ring-fault-requires
-ring-fault-requires c =
-    record { ready = c.requires.ready; closed = matched_closed c.args.numbers.now c.in-default.ensures.found; room = (omega arith, omega arith) }
+pub ring_fault-requires : goal.ring_fault-requires
+ring_fault-requires c =
+    record { ready = c.requires.ready; closed = matched_closed c.args.numbers.now c.in_default.ensures.found; room = (omega arith, omega arith) }
 
-pub returns-in-Some-ring-fault : goal.returns-in-Some-ring-fault
-returns-in-Some-ring-fault c = record { verdict = passed c.in-default.ensures.found (fault c.in-Some-ring-fault.ensures.found) }
+pub returns-in-Some-ring_fault : goal.returns-in-Some-ring_fault
+returns-in-Some-ring_fault c = record { verdict = passed c.in_default.ensures.found (fault c.in-Some-ring_fault.ensures.found) }
 
 pub returns-in-None : goal.returns-in-None
-returns-in-None c = record { verdict = passed c.in-default.ensures.found (passed c.in-None.ensures.found refl) }
+returns-in-None c = record { verdict = passed c.in_default.ensures.found (passed c.in-None.ensures.found refl) }

@@ -20,14 +20,14 @@ loop-i-preserved c =
     )
 
 -- no more sides than triangles, so the counts fit
-pub overflow-add-outs : goal.overflow-add-outs
-overflow-add-outs c =
+pub overflow_add-outs : goal.overflow_add-outs
+overflow_add-outs c =
     let s = c.step-step.result.second in
     let b = c.step-step.ensures.stepped.second_below in
     omega (arith, c.loop-i.invariant.1 s (omega arith), few_sides _ _ _ c.requires.ready c.args.corner c.loop-i.i (omega arith) c.args.corner s, c.requires.ready.few)
 
-pub overflow-add-ins : goal.overflow-add-ins
-overflow-add-ins c =
+pub overflow_add-ins : goal.overflow_add-ins
+overflow_add-ins c =
     let s = c.step-step.result.third in
     let b = c.step-step.ensures.stepped.third_below in
     omega (arith, c.loop-i.invariant.2 s (omega arith), few_sides _ _ _ c.requires.ready c.args.corner c.loop-i.i (omega arith) s c.args.corner, c.requires.ready.few)

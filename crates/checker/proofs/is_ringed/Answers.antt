@@ -8,13 +8,13 @@ returns c =
     let k = c.args.chains.now in
     let s = c.step-start.result in
     let st = c.step-start.ensures.stepped in
-    let j = c.join-neighbours-around in
+    let j = c.join_neighbours-around in
     record {
       value = (
-        λ e. ring_if_late k.numbers.now k.heads.now k.nexts.now c.requires.ready c.requires.closed c.args.corner j.new.follow j.ensures.follows c.first-first.result (omega arith) s st j.result j.ensures.value (c.goes-round.ensures.late e),
+        λ e. ring_if_late k.numbers.now k.heads.now k.nexts.now c.requires.ready c.requires.closed c.args.corner j.new.follow j.ensures.follows c.first-first.result (omega arith) s st j.result j.ensures.value (c.goes_round.ensures.late e),
         λ ringed. ⊎_elim (λ t. t)
-            (λ f. absurd (no_ring_if_early k.numbers.now k.heads.now k.nexts.now c.requires.ready c.requires.closed c.args.corner j.new.follow j.ensures.follows c.first-first.result (omega arith) s st j.result j.ensures.value (c.goes-round.ensures.early f) ringed))
-            (cases_Bool c.goes-round.result),
+            (λ f. absurd (no_ring_if_early k.numbers.now k.heads.now k.nexts.now c.requires.ready c.requires.closed c.args.corner j.new.follow j.ensures.follows c.first-first.result (omega arith) s st j.result j.ensures.value (c.goes_round.ensures.early f) ringed))
+            (cases_Bool c.goes_round.result),
       );
       within = j.ensures.within;
     }

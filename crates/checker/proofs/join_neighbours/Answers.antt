@@ -17,8 +17,8 @@ loop-i-init c =
       c.requires.within,
     )
 
-pub overflow-add-around : goal.overflow-add-around
-overflow-add-around c =
+pub overflow_add-around : goal.overflow_add-around
+overflow_add-around c =
     let k = c.args.chains.now in
     omega (arith, c.loop-i.invariant.2, around_few k.numbers.now k.heads.now k.nexts.now c.requires.ready c.requires.closed c.args.corner c.loop-i.i, c.requires.ready.few)
 

@@ -10,8 +10,8 @@ use Rattle.checker.proofs.part_fault.Goals as goal
 long : (bs : mathlib.Core.List.List ℕ) → length (numbers_in bs) ≡ 4 * triangle_count bs
 long bs = length_listed (λ i. number_at bs (triangles_from bs + 4 * i)) (4 * triangle_count bs)
 
-pub first-difference-requires : goal.first-difference-requires
-first-difference-requires c = c.number-parts.auto.triangles ∙ ap length c.requires.numbers ∙ long c.args.skin.now.bytes.now
+pub first_difference-requires : goal.first_difference-requires
+first_difference-requires c = c.number_parts.auto.triangles ∙ ap length c.requires.numbers ∙ long c.args.skin.now.bytes.now
 
 pub unreachable-requires : goal.unreachable-requires
 unreachable-requires c =
@@ -22,8 +22,8 @@ unreachable-requires c =
 pub returns : goal.returns
 returns c =
     let bs = c.args.skin.now.bytes.now in
-    let ms = c.number-parts.new.triangles in
-    let kept = c.number-parts.auto.triangles ∙ ap length c.requires.numbers in
+    let ms = c.number_parts.new.triangles in
+    let kept = c.number_parts.auto.triangles ∙ ap length c.requires.numbers in
     let counted : count_in ms + 1 ≡ suc (count_in (numbers_in bs)) = omega arith in
     record {
       found = record {
@@ -31,6 +31,6 @@ returns c =
         many = c.in-Some.parts;
         numbered = subst (λ ns. Numbered eqb (triangles_in ns) (parts_in ms) c.in-Some.parts) c.requires.numbers
             (numbered_by_links c.args.numbers.now c.args.corners c.requires.sound c.requires.ringed (parts_in ms) c.in-Some.parts c.in-Some.ensures.cases.numbered);
-        found = subst (λ n. Found (SameNumber (numbers_in bs) (part_count bs) (parts_in ms) c.in-Some.parts) n c.first-difference.result) counted c.first-difference.ensures.found;
+        found = subst (λ n. Found (SameNumber (numbers_in bs) (part_count bs) (parts_in ms) c.in-Some.parts) n c.first_difference.result) counted c.first_difference.ensures.found;
       };
     }

@@ -9,14 +9,14 @@ use Rattle.checker.proofs.side_fault.Goals as goal
 pub loop-corner-preserved : goal.loop-corner-preserved
 loop-corner-preserved c =
     let ns = c.args.chains.now.numbers.now in
-    let n = c.fault-from-worst.ensures.narrowed in (
-      c.clear-sides.ensures.clear.0,
-      c.clear-sides.ensures.clear.1,
+    let n = c.fault_from-worst.ensures.narrowed in (
+      c.clear_sides.ensures.clear.0,
+      c.clear_sides.ensures.clear.1,
       omega (arith, n.most),
       (λ l m. ⊎_elim (λ less. n.fault less m)
-          (λ more. let e : c.fault-from-worst.result ≡ c.loop-corner.worst = omega (arith, n.most) in
+          (λ more. let e : c.fault_from-worst.result ≡ c.loop-corner.worst = omega (arith, n.most) in
           c.loop-corner.invariant.3 (omega arith) (subst (λ w. Matched (triangles_in ns) (triangle_at ns w)) e m))
-          (cases_lt c.fault-from-worst.result c.loop-corner.worst)),
+          (cases_lt c.fault_from-worst.result c.loop-corner.worst)),
       λ d h k g. ⊎_elim (λ less. c.loop-corner.invariant.4 d less k (omega (arith, n.most)))
           (λ more. let e : c.loop-corner.corner ≡ d = omega arith in subst (λ x. MatchedFrom (triangles_in ns) x (triangle_at ns k)) e (n.fine k g))
           (cases_lt d c.loop-corner.corner),

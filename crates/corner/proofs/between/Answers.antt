@@ -2,5 +2,5 @@
 use Rattle.std.proofs.Common.{mul-le-mul_right, arith}
 use Rattle.corner.proofs.between.Goals as goal
 
-pub overflow-sub-result : goal.overflow-sub-result
-overflow-sub-result c = omega (arith, mul-le-mul_right c.args.from c.requires)
+pub overflow_sub-result : goal.overflow_sub-result
+overflow_sub-result c = omega (arith, mul-le-mul_right c.args.from c.requires)

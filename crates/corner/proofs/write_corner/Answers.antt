@@ -7,4 +7,4 @@ pub returns : goal.returns
 returns c =
     let cs = c.args.corners.now in
     let first = 3 * c.args.n.0 in
-    record { written = ap₂ (λ here after. take first cs ++ (here ++ after)) c.write-place.ensures.written (Post-is first (first + 3) cs (omega arith)) }
+    record { written = ap₂ (λ here after. take first cs ++ (here ++ after)) c.write_place.ensures.written (Post-is first (first + 3) cs (omega arith)) }

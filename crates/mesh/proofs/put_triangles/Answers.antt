@@ -9,7 +9,7 @@ loop-i-preserved c =
     let xs = c.args.triangles.now in
     let i = c.loop-i.i in
     let done = length_joined_take four_bytes 4 (λ x. refl) xs (4 * i) (omega arith) in
-    put_behind c.loop-i.out c.copy-from-slice.new.self (flat_map four_bytes (take (4 * i) xs)) (triangle_bytes (get_or xs (4 * i) 0) (get_or xs (4 * i + 1) 0) (get_or xs (4 * i + 2) 0) (get_or xs (4 * i + 3) 0)) c.args.out.now (16 * i) _ (16 * (i + 1)) c.loop-i.invariant (c.copy-from-slice.ensures.after ∙ c.triangle-bytes-triangle.ensures.value) (omega arith) (omega arith) (omega arith)
+    put_behind c.loop-i.out c.copy_from_slice.new.self (flat_map four_bytes (take (4 * i) xs)) (triangle_bytes (get_or xs (4 * i) 0) (get_or xs (4 * i + 1) 0) (get_or xs (4 * i + 2) 0) (get_or xs (4 * i + 3) 0)) c.args.out.now (16 * i) _ (16 * (i + 1)) c.loop-i.invariant (c.copy_from_slice.ensures.after ∙ c.triangle_bytes-triangle.ensures.value) (omega arith) (omega arith) (omega arith)
     ∙ ap (λ s. s ++ drop (16 * (i + 1)) c.args.out.now) (sym (joined_four four_bytes xs (4 * i) (4 * (i + 1)) (omega arith) (omega arith)))
 
 pub returns : goal.returns

@@ -8,12 +8,12 @@ use Rattle.part.proofs.Spokes.{alone_forest, no_spokes, spokes_more, rooted}
 use Rattle.part.proofs.find_roots.Goals as goal
 
 pub loop-i-init : goal.loop-i-init
-loop-i-init c = (alone_forest _ c.set-alone.ensures.alone, no_spokes _ _ c.set-alone.ensures.alone)
+loop-i-init c = (alone_forest _ c.set_alone.ensures.alone, no_spokes _ _ c.set_alone.ensures.alone)
 
 pub loop-i-preserved : goal.loop-i-preserved
 loop-i-preserved c = (
-  c.unite-triangle.ensures.forest,
-  alike_trans c.unite-triangle.ensures.alike
+  c.unite_triangle.ensures.forest,
+  alike_trans c.unite_triangle.ensures.alike
       (alike_trans (alike_plus _ _ _ _ (alike_plus _ _ _ _ c.loop-i.invariant.1)) (spokes_more c.args.triangles.now c.loop-i.i)),
 )
 

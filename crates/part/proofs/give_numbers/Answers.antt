@@ -12,27 +12,27 @@ loop-i-init c =
     let ns = c.args.triangles.now in
     subst (λ m. Turn ns ns m 0 0) (sym (c.fill.ensures.after (λ y e. e))) (turn_none ns (length c.args.numbers.now))
 
-pub overflow-add-count : goal.overflow-add-count
-overflow-add-count c =
+pub overflow_add-count : goal.overflow_add-count
+overflow_add-count c =
     omega (
       arith,
       turn_room _ _ _ _ _ c.loop-i.invariant (λ k h. omega (arith, c.requires.0 k h)) (omega arith) (omega arith) (omega arith) _ _
-          c.number-of-number.ensures.given c.number-of-number.ensures.value c.if-number-count.true,
+          c.number_of-number.ensures.given c.number_of-number.ensures.value c.if-number-count.true,
     )
 
 pub loop-i-preserved : goal.loop-i-preserved
 loop-i-preserved c =
     let ns = c.args.triangles.now in
-    let ms = set c.loop-i.triangles (4 * c.loop-i.i + 3) c.number-of-number.result in
+    let ms = set c.loop-i.triangles (4 * c.loop-i.i + 3) c.number_of-number.result in
     elim c.if-number-count.branch [
       | then-number-count w ↦
-          subst (λ n. Turn ns ms c.number-of-number.new.numbers n (c.loop-i.i + 1)) (sym w.count-is)
+          subst (λ n. Turn ns ms c.number_of-number.new.numbers n (c.loop-i.i + 1)) (sym w.count-is)
           (turn_new _ _ _ _ _ c.loop-i.invariant (λ k h. omega (arith, c.requires.0 k h)) (omega arith) (omega arith) (omega arith) _ _
-          c.number-of-number.ensures.given c.number-of-number.ensures.value w.if-number-count.true)
+          c.number_of-number.ensures.given c.number_of-number.ensures.value w.if-number-count.true)
       | else-number-count w ↦
-          subst (λ n. Turn ns ms c.number-of-number.new.numbers n (c.loop-i.i + 1)) (sym w.count-is)
+          subst (λ n. Turn ns ms c.number_of-number.new.numbers n (c.loop-i.i + 1)) (sym w.count-is)
           (turn_old _ _ _ _ _ c.loop-i.invariant (λ k h. omega (arith, c.requires.0 k h)) (omega arith) (omega arith) (omega arith) _ _
-          c.number-of-number.ensures.given c.number-of-number.ensures.value w.if-number-count.false)
+          c.number_of-number.ensures.given c.number_of-number.ensures.value w.if-number-count.false)
     ]
 
 pub returns : goal.returns

@@ -7,13 +7,13 @@ pub returns : goal.returns
 returns c =
     let ns = c.args.triangles.now in
     let taken = c.takes.ensures.value.0 c.if-not-takes.false in
-    let long : length c.find-roots.new.roots ≡ c.args.corners =
-    omega (arith, simp length-take at c.find-roots.auto.roots, taken.enough) in
+    let long : length c.find_roots.new.roots ≡ c.args.corners =
+    omega (arith, simp length-take at c.find_roots.auto.roots, taken.enough) in
     record {
       cases = record {
         taken = taken;
-        same_corners = triangles_same ns _ (omega arith) (λ i h. c.give-numbers.ensures.same i h ∙ c.write-roots.ensures.same i h);
-        numbered = by_links ns _ _ _ (omega arith) (omega arith) (λ i h k. omega (arith, taken.in_range i h k)) c.find-roots.ensures.rooted
-            c.write-roots.ensures.written c.give-numbers.ensures.alike _ c.give-numbers.ensures.turn;
+        same_corners = triangles_same ns _ (omega arith) (λ i h. c.give_numbers.ensures.same i h ∙ c.write_roots.ensures.same i h);
+        numbered = by_links ns _ _ _ (omega arith) (omega arith) (λ i h k. omega (arith, taken.in_range i h k)) c.find_roots.ensures.rooted
+            c.write_roots.ensures.written c.give_numbers.ensures.alike _ c.give_numbers.ensures.turn;
       };
     }

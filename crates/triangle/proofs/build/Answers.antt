@@ -5,14 +5,14 @@ use Rattle.triangle.proofs.build.Goals as goal
 
 pub returns-then-corners-counts : goal.returns-then-corners-counts
 returns-then-corners-counts c =
-    let read = c.in-ok-block.ensures.cases in
-    let all = c.count-block-counts.ensures.counted in
+    let read = c.in_ok-block.ensures.cases in
+    let all = c.count_block-counts.ensures.counted in
     record { cases = record { reason = short_corners _ _ read _ all _ _ _ c.if-corners-counts.true; same_corners = refl; same_triangles = refl; same_work = refl } }
 
 pub returns-then-triangles-counts : goal.returns-then-triangles-counts
 returns-then-triangles-counts c =
-    let read = c.in-ok-block.ensures.cases in
-    let all = c.count-block-counts.ensures.counted in
+    let read = c.in_ok-block.ensures.cases in
+    let all = c.count_block-counts.ensures.counted in
     record {
       cases =
           record {
@@ -25,8 +25,8 @@ returns-then-triangles-counts c =
 
 pub returns-then-work-points : goal.returns-then-work-points
 returns-then-work-points c =
-    let read = c.in-ok-block.ensures.cases in
-    let all = c.count-block-counts.ensures.counted in
+    let read = c.in_ok-block.ensures.cases in
+    let all = c.count_block-counts.ensures.counted in
     let less = subst (λ n. length c.args.work.now < 6 * n) c.points.ensures.value c.if-work-points.true in
     record {
       cases =
@@ -38,17 +38,17 @@ returns-then-work-points c =
           };
     }
 
-pub write-block-requires : goal.write-block-requires
-write-block-requires c =
-    let read = c.in-ok-block.ensures.cases in
-    let all = c.count-block-counts.ensures.counted in
+pub write_block-requires : goal.write_block-requires
+write_block-requires c =
+    let read = c.in_ok-block.ensures.cases in
+    let all = c.count_block-counts.ensures.counted in
     let enough = subst (λ n. 6 * n ≤ length c.args.work.now) c.points.ensures.value c.if-work-points.false in
     ready _ _ read _ all _ _ _ c.if-corners-counts.false c.if-triangles-counts.false enough
 
 pub returns : goal.returns
 returns c =
-    let read = c.in-ok-block.ensures.cases in
-    let all = c.count-block-counts.ensures.counted in
+    let read = c.in_ok-block.ensures.cases in
+    let all = c.count_block-counts.ensures.counted in
     let enough = subst (λ n. 6 * n ≤ length c.args.work.now) c.points.ensures.value c.if-work-points.false in
     record {
       cases =
@@ -58,7 +58,7 @@ returns c =
             triangle_count = triangle_count _ _ read _ all;
             at_most_six = few _ _ read _ all;
             written =
-                subst (λ bs. SkinWritten bs c.args.corners.now c.args.triangles.now c.write-block.new.corners c.write-block.new.triangles)
-                read.0 c.write-block.ensures.written;
+                subst (λ bs. SkinWritten bs c.args.corners.now c.args.triangles.now c.write_block.new.corners c.write_block.new.triangles)
+                read.0 c.write_block.ensures.written;
           };
     }

@@ -15,8 +15,8 @@ own : (cs ts : List ℕ) (parts : List Part) (i m : ℕ) → parts ≡ all_measu
     get_or parts (part_at ts i) (Outer 0 (pos 0)) ≡ measured cs ts i (part_at ts i)
 own cs ts parts i m e l = ap (λ us. get_or us (part_at ts i) (Outer 0 (pos 0))) e ∙ measured_at cs ts i m (part_at ts i) (Outer 0 (pos 0)) l
 
-pub slice-copy-out·part : goal.slice-copy-out·part
-slice-copy-out·part c =
+pub slice_copy_out-part : goal.slice_copy_out-part
+slice_copy_out-part c =
     let f = facts c.args.corners.now c.args.triangles.now (length c.args.parts.now) c.requires.measurable in
     omega (arith, f.part_below c.loop-i.i c.loop-i-test.true)
 
@@ -25,8 +25,8 @@ bounds-parts-number c =
     let f = facts c.args.corners.now c.args.triangles.now (length c.args.parts.now) c.requires.measurable in
     omega (arith, f.part_below c.loop-i.i c.loop-i-test.true)
 
-pub determinant-at-requires : goal.determinant-at-requires
-determinant-at-requires c =
+pub determinant_at-requires : goal.determinant_at-requires
+determinant_at-requires c =
     let f = facts c.args.corners.now c.args.triangles.now (length c.args.parts.now) c.requires.measurable in
     (f.low_there, c.loop-i-test.true, f.corners c.loop-i.i c.loop-i-test.true)
 

@@ -4,22 +4,22 @@ use Rattle.theory_volume.proofs.Steps.{worked_value}
 use Rattle.volume.proofs.Words.{product_fits, two_fits, three_fits, sum_kept, sum_small}
 use Rattle.volume.proofs.determinant.Goals as goal
 
-pub overflow-mul-x : goal.overflow-mul-x
-overflow-mul-x c = product_fits c.args.a.x c.crossed.result (omega arith) c.crossed.ensures.bound
+pub overflow_mul-x : goal.overflow_mul-x
+overflow_mul-x c = product_fits c.args.a.x c.crossed.result (omega arith) c.crossed.ensures.bound
 
-pub overflow-mul-y : goal.overflow-mul-y
-overflow-mul-y c = product_fits c.args.a.y c.crossed-2.result (omega arith) c.crossed-2.ensures.bound
+pub overflow_mul-y : goal.overflow_mul-y
+overflow_mul-y c = product_fits c.args.a.y c.crossed-2.result (omega arith) c.crossed-2.ensures.bound
 
-pub overflow-mul-z : goal.overflow-mul-z
-overflow-mul-z c = product_fits c.args.a.z c.crossed-3.result (omega arith) c.crossed-3.ensures.bound
+pub overflow_mul-z : goal.overflow_mul-z
+overflow_mul-z c = product_fits c.args.a.z c.crossed-3.result (omega arith) c.crossed-3.ensures.bound
 
-pub overflow-add-result : goal.overflow-add-result
-overflow-add-result c =
+pub overflow_add-result : goal.overflow_add-result
+overflow_add-result c =
     two_fits c.args.a.x c.args.a.y c.args.a.z c.crossed.result c.crossed-2.result c.crossed-3.result
     (omega arith) (omega arith) (omega arith) c.crossed.ensures.bound c.crossed-2.ensures.bound c.crossed-3.ensures.bound
 
-pub overflow-add-result-2 : goal.overflow-add-result-2
-overflow-add-result-2 c =
+pub overflow_add-result-2 : goal.overflow_add-result-2
+overflow_add-result-2 c =
     three_fits c.args.a.x c.args.a.y c.args.a.z c.crossed.result c.crossed-2.result c.crossed-3.result
     (omega arith) (omega arith) (omega arith) c.crossed.ensures.bound c.crossed-2.ensures.bound c.crossed-3.ensures.bound
 

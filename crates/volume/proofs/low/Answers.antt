@@ -6,15 +6,15 @@ use Rattle.volume.specs.Measure.{low}
 use Rattle.volume.proofs.Tests.{each_below_more, each_below_false}
 use Rattle.volume.proofs.low.Goals as goal
 
-pub returns-then-x-gt-MOST-COORDINATE : goal.returns-then-x-gt-MOST-COORDINATE
-returns-then-x-gt-MOST-COORDINATE c =
+pub returns-then-x-gt-MOST_COORDINATE : goal.returns-then-x-gt-MOST_COORDINATE
+returns-then-x-gt-MOST_COORDINATE c =
     let cs = c.args.corners.now in
     record {
       value = sym (each_below_false (length cs) (low cs) c.loop-x.x-index (omega arith)
-          (lt-leb (get_or cs c.loop-x.x-index 0) most_coordinate c.if-x-gt-MOST-COORDINATE.true));
+          (lt-leb (get_or cs c.loop-x.x-index 0) most_coordinate c.if-x-gt-MOST_COORDINATE.true));
     }
 
 pub loop-x-preserved : goal.loop-x-preserved
 loop-x-preserved c =
     each_below_more c.loop-x.x-index _ c.loop-x.invariant
-    (le-leb (get_or c.args.corners.now c.loop-x.x-index 0) most_coordinate c.if-x-gt-MOST-COORDINATE.false)
+    (le-leb (get_or c.args.corners.now c.loop-x.x-index 0) most_coordinate c.if-x-gt-MOST_COORDINATE.false)

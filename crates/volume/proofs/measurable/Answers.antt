@@ -5,8 +5,8 @@ use Rattle.volume.specs.Measure.{each_below, low, fine, measurable}
 use Rattle.volume.proofs.Tests.{low_all}
 use Rattle.volume.proofs.measurable.Goals as goal
 
-pub all-fine-requires : goal.all-fine-requires
-all-fine-requires c = low_all c.args.corners.now (sym c.if-not-low.ensures.value)
+pub all_fine-requires : goal.all_fine-requires
+all_fine-requires c = low_all c.args.corners.now (sym c.if-not-low.ensures.value)
 
 pub returns-then-not-whole : goal.returns-then-not-whole
 unfolding measurable
@@ -35,6 +35,6 @@ returns c =
     let ts = c.args.triangles.now in
     record {
       value =
-          c.all-fine.ensures.value
+          c.all_fine.ensures.value
           ∙ ap₂ (λ a b. a && (b && each_below (triangle_count ts) (fine cs ts c.args.parts))) c.if-not-whole.ensures.value c.if-not-low.ensures.value;
     }

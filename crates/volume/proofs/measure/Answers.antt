@@ -4,8 +4,8 @@ use Rattle.volume.specs.Measure.{all_measured, measurable}
 use Rattle.volume.proofs.Growing.{none_measured}
 use Rattle.volume.proofs.measure.Goals as goal
 
-pub add-up-requires : goal.add-up-requires
-add-up-requires c =
+pub add_up-requires : goal.add_up-requires
+add_up-requires c =
     let cs = c.args.corners.now in
     let ts = c.args.triangles.now in
     let m = length c.args.parts.now in

@@ -5,17 +5,17 @@ use Rattle.whole.proofs.Building.{takes}
 use Rattle.whole.proofs.Finishing.{can_be_measured, finished}
 use Rattle.whole.proofs.make_skin.Goals as goal
 
-pub number-skin-count-requires : goal.number-skin-count-requires
-number-skin-count-requires c =
-    simp sub-zero (takes c.in-ok-counts.ensures.cases c.build.new.work (omega arith))
+pub number_skin-count-requires : goal.number_skin-count-requires
+number_skin-count-requires c =
+    simp sub-zero (takes c.in_ok-counts.ensures.cases c.build.new.work (omega arith))
 
-pub measure-skin-requires : goal.measure-skin-requires
-measure-skin-requires c =
+pub measure_skin-requires : goal.measure_skin-requires
+measure_skin-requires c =
     simp sub-zero
     (record {
       measurable =
-          can_be_measured c.in-ok-counts.ensures.cases (simp sub-zero at c.number-skin-count.ensures.written)
-          (simp sub-zero at c.number-skin-count.auto.triangles);
+          can_be_measured c.in_ok-counts.ensures.cases (simp sub-zero at c.number_skin-count.ensures.written)
+          (simp sub-zero at c.number_skin-count.auto.triangles);
     })
 
 pub returns : goal.returns
@@ -23,8 +23,8 @@ returns c =
     simp sub-zero
     (record {
       cases =
-          finished c.in-ok-counts.ensures.cases (simp sub-zero at c.number-skin-count.ensures.written)
-          (simp sub-zero at c.number-skin-count.auto.triangles) c.args.parts.now (omega arith)
-          (simp sub-zero at c.measure-skin.ensures.written) (omega arith) (omega arith) (omega arith)
-          (λ i. let fits = simp sub-zero at (c.type-inv.triangles i) in omega arith);
+          finished c.in_ok-counts.ensures.cases (simp sub-zero at c.number_skin-count.ensures.written)
+          (simp sub-zero at c.number_skin-count.auto.triangles) c.args.parts.now (omega arith)
+          (simp sub-zero at c.measure_skin.ensures.written) (omega arith) (omega arith) (omega arith)
+          (λ i. let fits = simp sub-zero at (c.type_inv.triangles i) in omega arith);
     })

@@ -11,12 +11,12 @@ loop-y-init c = refl
 pub returns-in-Some : goal.returns-in-Some
 returns-in-Some c =
     let bs = c.args.self.now.bytes.now in
-    record { value = sym (faults_some bs (size_x bs) c.loop-y.y (λ y. row (size_x bs) y c.args.z) (byte_of bs (pt 0 0 c.args.z)) (byte_of bs (pt 0 c.loop-y.y c.args.z)) (λ y. row_length (size_x bs) y c.args.z) (omega arith) c.in-Some.refusal (size_y bs) c.loop-y.invariant (sym c.row-fault.ensures.value ∙ c.in-Some.is) (omega arith)) }
+    record { value = sym (faults_some bs (size_x bs) c.loop-y.y (λ y. row (size_x bs) y c.args.z) (byte_of bs (pt 0 0 c.args.z)) (byte_of bs (pt 0 c.loop-y.y c.args.z)) (λ y. row_length (size_x bs) y c.args.z) (omega arith) c.in-Some.refusal (size_y bs) c.loop-y.invariant (sym c.row_fault.ensures.value ∙ c.in-Some.is) (omega arith)) }
 
 pub loop-y-preserved : goal.loop-y-preserved
 loop-y-preserved c =
     let bs = c.args.self.now.bytes.now in
-    faults_none_more bs (size_x bs) c.loop-y.y (λ y. row (size_x bs) y c.args.z) (byte_of bs (pt 0 0 c.args.z)) (byte_of bs (pt 0 c.loop-y.y c.args.z)) (λ y. row_length (size_x bs) y c.args.z) (omega arith) c.loop-y.invariant (sym c.row-fault.ensures.value ∙ c.in-default.is)
+    faults_none_more bs (size_x bs) c.loop-y.y (λ y. row (size_x bs) y c.args.z) (byte_of bs (pt 0 0 c.args.z)) (byte_of bs (pt 0 c.loop-y.y c.args.z)) (λ y. row_length (size_x bs) y c.args.z) (omega arith) c.loop-y.invariant (sym c.row_fault.ensures.value ∙ c.in_default.is)
 
 pub returns : goal.returns
 returns c =

@@ -6,14 +6,14 @@ pub returns-in-Some : goal.returns-in-Some
 unfolding refusal_of
 returns-in-Some c =
     let bs = c.args.self.now.bytes.now in
-    record { value = ap (λ o. first_of o (first_of (faults bs (points bs) 4) (excess bs))) (sym c.in-Some.is ∙ c.header-fault.ensures.value) }
+    record { value = ap (λ o. first_of o (first_of (faults bs (points bs) 4) (excess bs))) (sym c.in-Some.is ∙ c.header_fault.ensures.value) }
 
-pub returns-in-Some-values-fault : goal.returns-in-Some-values-fault
+pub returns-in-Some-values_fault : goal.returns-in-Some-values_fault
 unfolding refusal_of
-returns-in-Some-values-fault c =
+returns-in-Some-values_fault c =
     let bs = c.args.self.now.bytes.now in
     record {
-      value = ap₂ (λ o p. first_of o (first_of p (excess bs))) (sym c.in-default.is ∙ c.header-fault.ensures.value) (sym c.in-Some-values-fault.is ∙ c.values-fault.ensures.value);
+      value = ap₂ (λ o p. first_of o (first_of p (excess bs))) (sym c.in_default.is ∙ c.header_fault.ensures.value) (sym c.in-Some-values_fault.is ∙ c.values_fault.ensures.value);
     }
 
 pub returns : goal.returns
@@ -23,5 +23,5 @@ returns c =
     record {
       value =
           c.excess.ensures.value
-          ∙ ap₂ (λ o p. first_of o (first_of p (excess bs))) (sym c.in-default.is ∙ c.header-fault.ensures.value) (sym c.in-default-values-fault.is ∙ c.values-fault.ensures.value);
+          ∙ ap₂ (λ o p. first_of o (first_of p (excess bs))) (sym c.in_default.is ∙ c.header_fault.ensures.value) (sym c.in_default-values_fault.is ∙ c.values_fault.ensures.value);
     }

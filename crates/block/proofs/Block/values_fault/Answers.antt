@@ -11,12 +11,12 @@ loop-z-init c = refl
 pub returns-in-Some : goal.returns-in-Some
 returns-in-Some c =
     let bs = c.args.self.now.bytes.now in
-    record { value = sym (faults_some bs (size_x bs * size_y bs) c.loop-z.z (layer (size_x bs) (size_y bs)) 4 (byte_of bs (pt 0 0 c.loop-z.z)) (layer_length (size_x bs) (size_y bs)) (omega arith) c.in-Some.refusal (size_z bs) c.loop-z.invariant (sym c.layer-fault.ensures.value ∙ c.in-Some.is) (omega arith)) }
+    record { value = sym (faults_some bs (size_x bs * size_y bs) c.loop-z.z (layer (size_x bs) (size_y bs)) 4 (byte_of bs (pt 0 0 c.loop-z.z)) (layer_length (size_x bs) (size_y bs)) (omega arith) c.in-Some.refusal (size_z bs) c.loop-z.invariant (sym c.layer_fault.ensures.value ∙ c.in-Some.is) (omega arith)) }
 
 pub loop-z-preserved : goal.loop-z-preserved
 loop-z-preserved c =
     let bs = c.args.self.now.bytes.now in
-    faults_none_more bs (size_x bs * size_y bs) c.loop-z.z (layer (size_x bs) (size_y bs)) 4 (byte_of bs (pt 0 0 c.loop-z.z)) (layer_length (size_x bs) (size_y bs)) (omega arith) c.loop-z.invariant (sym c.layer-fault.ensures.value ∙ c.in-default.is)
+    faults_none_more bs (size_x bs * size_y bs) c.loop-z.z (layer (size_x bs) (size_y bs)) 4 (byte_of bs (pt 0 0 c.loop-z.z)) (layer_length (size_x bs) (size_y bs)) (omega arith) c.loop-z.invariant (sym c.layer_fault.ensures.value ∙ c.in_default.is)
 
 pub returns : goal.returns
 returns c =

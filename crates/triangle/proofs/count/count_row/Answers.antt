@@ -9,24 +9,24 @@ use Rattle.triangle.proofs.Counting.{counted_then, row_counted}
 use Rattle.triangle.proofs.Pieces.{cube_of_faces, face_le}
 use Rattle.triangle.proofs.count.count_row.Goals as goal
 
-pub overflow-add-near : goal.overflow-add-near
-overflow-add-near c =
+pub overflow_add-near : goal.overflow_add-near
+overflow_add-near c =
     let f = inside c.args.block.now.bytes.now in
     omega (arith, c.loop-x.invariant.0, c.face-far.ensures.value, face_le f c.loop-x.x c.args.y c.args.z, face_le f (c.loop-x.x + 1) c.args.y c.args.z)
 
-pub overflow-add-counts : goal.overflow-add-counts
-overflow-add-counts c =
+pub overflow_add-counts : goal.overflow_add-counts
+overflow_add-counts c =
     let bs = c.args.block.now.bytes.now in
     let inner : suc c.loop-x.x < size_x bs = omega arith in
     let cube = cube_of_faces bs c.loop-x.x c.args.y c.args.z _ _ c.requires.0 inner c.requires.1.0 c.requires.1.1 c.loop-x.invariant.0 c.face-far.ensures.value in
-    omega (arith, (c.count-cube-cube.ensures.counted bs cube).few_corners, c.loop-x.invariant.1.few_corners)
+    omega (arith, (c.count_cube-cube.ensures.counted bs cube).few_corners, c.loop-x.invariant.1.few_corners)
 
-pub overflow-add-counts-in-loop-x : goal.overflow-add-counts-in-loop-x
-overflow-add-counts-in-loop-x c =
+pub overflow_add-counts-in-loop-x : goal.overflow_add-counts-in-loop-x
+overflow_add-counts-in-loop-x c =
     let bs = c.args.block.now.bytes.now in
     let inner : suc c.loop-x.x < size_x bs = omega arith in
     let cube = cube_of_faces bs c.loop-x.x c.args.y c.args.z _ _ c.requires.0 inner c.requires.1.0 c.requires.1.1 c.loop-x.invariant.0 c.face-far.ensures.value in
-    omega (arith, (c.count-cube-cube.ensures.counted bs cube).few_triangles, c.loop-x.invariant.1.few_triangles)
+    omega (arith, (c.count_cube-cube.ensures.counted bs cube).few_triangles, c.loop-x.invariant.1.few_triangles)
 
 pub loop-x-preserved : goal.loop-x-preserved
 loop-x-preserved c =
@@ -34,8 +34,8 @@ loop-x-preserved c =
     let x = c.loop-x.x in
     let inner : suc x < size_x bs = omega arith in
     let cube = cube_of_faces bs x c.args.y c.args.z _ _ c.requires.0 inner c.requires.1.0 c.requires.1.1 c.loop-x.invariant.0 c.face-far.ensures.value in
-    let both : Counts = record { corners = c.loop-x.counts.corners + c.count-cube-cube.result.corners; triangles = c.loop-x.counts.triangles + c.count-cube-cube.result.triangles } in
-    let sum = counted_then bs _ (pt x c.args.y c.args.z) _ _ _ _ _ c.loop-x.invariant.1 (c.count-cube-cube.ensures.counted bs cube) in
+    let both : Counts = record { corners = c.loop-x.counts.corners + c.count_cube-cube.result.corners; triangles = c.loop-x.counts.triangles + c.count_cube-cube.result.triangles } in
+    let sum = counted_then bs _ (pt x c.args.y c.args.z) _ _ _ _ _ c.loop-x.invariant.1 (c.count_cube-cube.ensures.counted bs cube) in
     (c.face-far.ensures.value, subst (λ n. Counted bs (pt 0 c.args.y c.args.z) (pt n c.args.y c.args.z) (x + 1) both) (sym (add-one x)) sum)
 
 pub returns : goal.returns

@@ -7,8 +7,8 @@ use Rattle.triangle.proofs.write.write_layer.Goals as goal
 
 pub loop-y-preserved : goal.loop-y-preserved
 loop-y-preserved c =
-    subst (λ n. Goes c.args.block.now.bytes.now (pt 0 0 c.args.z) (pt 0 n c.args.z) c.args.out.now c.write-row.new.out) (sym (add-one c.loop-y.y))
-    (goes_then _ _ (pt 0 c.loop-y.y c.args.z) _ _ _ _ c.loop-y.invariant c.write-row.ensures.goes)
+    subst (λ n. Goes c.args.block.now.bytes.now (pt 0 0 c.args.z) (pt 0 n c.args.z) c.args.out.now c.write_row.new.out) (sym (add-one c.loop-y.y))
+    (goes_then _ _ (pt 0 c.loop-y.y c.args.z) _ _ _ _ c.loop-y.invariant c.write_row.ensures.goes)
 
 pub returns : goal.returns
 returns c =

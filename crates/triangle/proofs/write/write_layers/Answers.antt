@@ -7,8 +7,8 @@ use Rattle.triangle.proofs.write.write_layers.Goals as goal
 
 pub loop-z-preserved : goal.loop-z-preserved
 loop-z-preserved c =
-    subst (λ n. Goes c.args.block.now.bytes.now (pt 0 0 0) (pt 0 0 n) c.args.out.now c.write-layer.new.out) (sym (add-one c.loop-z.z))
-    (goes_then _ _ (pt 0 0 c.loop-z.z) _ _ _ _ c.loop-z.invariant c.write-layer.ensures.goes)
+    subst (λ n. Goes c.args.block.now.bytes.now (pt 0 0 0) (pt 0 0 n) c.args.out.now c.write_layer.new.out) (sym (add-one c.loop-z.z))
+    (goes_then _ _ (pt 0 0 c.loop-z.z) _ _ _ _ c.loop-z.invariant c.write_layer.ensures.goes)
 
 pub returns : goal.returns
 returns c =

@@ -12,17 +12,17 @@ loop-number-preserved c =
     let bs = c.args.block.now.bytes.now in
     let k = c.args.cube in
     let w = c.args.piece in
-    let many : c.triangle-count-number-end.result ≡ length (triangles_in (case_in k.bits w)) =
-    c.triangle-count-number-end.ensures.value ∙ ap (λ n. length (triangles_in n)) c.case.ensures.value in
-    subst (λ us. Adds bs k us c.args.out.now c.write-triangle.new.out) (sym (piece_more k w c.loop-number.number (omega arith)))
+    let many : c.triangle_count-number-end.result ≡ length (triangles_in (case_in k.bits w)) =
+    c.triangle_count-number-end.ensures.value ∙ ap (λ n. length (triangles_in n)) c.case.ensures.value in
+    subst (λ us. Adds bs k us c.args.out.now c.write_triangle.new.out) (sym (piece_more k w c.loop-number.number (omega arith)))
     (adds_then bs k c.requires.0 (take c.loop-number.number (piece_triangles k w)) (triangle_at k w c.loop-number.number ∷ []) _ _ _
-    c.loop-number.invariant c.write-triangle.ensures.adds)
+    c.loop-number.invariant c.write_triangle.ensures.adds)
 
 pub returns : goal.returns
 returns c =
     let bs = c.args.block.now.bytes.now in
     let k = c.args.cube in
     let w = c.args.piece in
-    let many : c.triangle-count-number-end.result ≡ length (piece_triangles k w) =
-    c.triangle-count-number-end.ensures.value ∙ ap (λ n. length (triangles_in n)) c.case.ensures.value ∙ sym (length-map (triangles_in (case_in k.bits w)) _) in
+    let many : c.triangle_count-number-end.result ≡ length (piece_triangles k w) =
+    c.triangle_count-number-end.ensures.value ∙ ap (λ n. length (triangles_in n)) c.case.ensures.value ∙ sym (length-map (triangles_in (case_in k.bits w)) _) in
     record { adds = subst (λ us. Adds bs k us c.args.out.now c.loop-number.out) (take_all c.loop-number.number (piece_triangles k w) (omega arith)) c.loop-number.invariant }

@@ -8,22 +8,22 @@ pub returns : goal.returns
 returns c =
     let e = c.args.self in
     let along = c.axes-along.result in
-    let x = c.in-ok-checked-sub.field-0 in
-    let y = c.in-ok-checked-sub-2.field-0 in
-    let z = c.in-ok-checked-sub-3.field-0 in
+    let x = c.in_ok-checked_sub.field-0 in
+    let y = c.in_ok-checked_sub-2.field-0 in
+    let z = c.in_ok-checked_sub-3.field-0 in
     record {
       value =
           lower_found (offset_of e.step) along.x along.y along.z x y z e.upper.x e.upper.y e.upper.z c.axes-along.ensures.value
-          (checked_back along.x x e.upper.x c.in-ok-checked-sub.ensures)
-          (checked_back along.y y e.upper.y c.in-ok-checked-sub-2.ensures)
-          (checked_back along.z z e.upper.z c.in-ok-checked-sub-3.ensures);
+          (checked_back along.x x e.upper.x c.in_ok-checked_sub.ensures)
+          (checked_back along.y y e.upper.y c.in_ok-checked_sub-2.ensures)
+          (checked_back along.z z e.upper.z c.in_ok-checked_sub-3.ensures);
     }
 
-pub returns-in-err-checked-sub : goal.returns-in-err-checked-sub
-returns-in-err-checked-sub c = record { value = grind (arith, nat_tests) }
+pub returns-in_err-checked_sub : goal.returns-in_err-checked_sub
+returns-in_err-checked_sub c = record { value = grind (arith, nat_tests) }
 
-pub returns-in-err-checked-sub-2 : goal.returns-in-err-checked-sub-2
-returns-in-err-checked-sub-2 c = record { value = grind (arith, nat_tests) }
+pub returns-in_err-checked_sub-2 : goal.returns-in_err-checked_sub-2
+returns-in_err-checked_sub-2 c = record { value = grind (arith, nat_tests) }
 
-pub returns-in-err-checked-sub-3 : goal.returns-in-err-checked-sub-3
-returns-in-err-checked-sub-3 c = record { value = grind (arith, nat_tests) }
+pub returns-in_err-checked_sub-3 : goal.returns-in_err-checked_sub-3
+returns-in_err-checked_sub-3 c = record { value = grind (arith, nat_tests) }
