@@ -59,9 +59,9 @@ impl Part {
 
     // The part with one more triangle.
     fn with(self, determinant: i64) -> Part
-        requires self_bound { count_of self < most_triangles }
-        requires self_bound_2 { unsigned_abs (volume_of self) ≤ 2 ^ 58 }
-        requires determinant_bound { unsigned_abs determinant ≤ 2 ^ 34 }
+        requires few { count_of self < most_triangles }
+        requires fits { unsigned_abs (volume_of self) ≤ 2 ^ 58 }
+        requires small { unsigned_abs determinant ≤ 2 ^ 34 }
         ensures value { result ≡ part_of (count_of self + 1) (volume_of self +ℤ determinant) }
     {
         match self {
@@ -133,7 +133,7 @@ fn determinant(a: Place, b: Place, c: Place) -> i64
 // The place of the corner with a number.
 fn corner_place(corners: &[u32], corner: u32) -> Place
     requires low { Low corners.now }
-    requires corner_bound { corner < corner_count corners.now }
+    requires there { corner < corner_count corners.now }
     ensures value { pt result.x result.y result.z ≡ place_in corners.now corner }
 {
     let first = 3 * corner as usize;
@@ -147,8 +147,8 @@ fn corner_place(corners: &[u32], corner: u32) -> Place
 // The determinant of the triangle at a place of the order.
 fn determinant_at(corners: &[u32], triangles: &[u32], i: usize) -> i64
     requires low { Low corners.now }
-    requires i_bound { i < triangle_count triangles.now }
-    requires i_value { cornered corners.now triangles.now i ≡ true }
+    requires there { i < triangle_count triangles.now }
+    requires cornered { cornered corners.now triangles.now i ≡ true }
     ensures value { result ≡ determinant_at corners.now triangles.now i }
 {
     let a = corner_place(corners, triangles[4 * i]);
@@ -190,7 +190,7 @@ fn cornered(corners: &[u32], triangles: &[u32], i: usize) -> bool
 // Whether a triangle can be measured: its corners and its part are there, and its determinant is no larger than one of a skin.
 fn fine(corners: &[u32], triangles: &[u32], parts: usize, i: usize) -> bool
     requires low { Low corners.now }
-    requires i_bound { i < triangle_count triangles.now }
+    requires there { i < triangle_count triangles.now }
     ensures value { result ≡ fine corners.now triangles.now parts i }
 {
     cornered(corners, triangles, i)

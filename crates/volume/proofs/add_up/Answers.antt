@@ -28,7 +28,7 @@ bounds-parts-number c =
 pub determinant_at-requires : goal.determinant_at-requires
 determinant_at-requires c =
     let f = facts c.args.corners.now c.args.triangles.now (length c.args.parts.now) c.requires.measurable in
-    (f.low_there, c.loop-i-test.true, f.corners c.loop-i.i c.loop-i-test.true)
+    record { low = f.low_there; there = c.loop-i-test.true; cornered = f.corners c.loop-i.i c.loop-i-test.true }
 
 pub with-requires : goal.with-requires
 with-requires c =
@@ -38,12 +38,14 @@ with-requires c =
     let p = part_at ts i in
     let f = facts cs ts (length c.args.parts.now) c.requires.measurable in
     let e = own cs ts c.loop-i.parts i (length c.args.parts.now) c.loop-i.invariant (f.part_below i c.loop-i-test.true) in
-    let few : i < most_triangles = omega (arith, f.few) in (
-      subst (λ q. count_of q < most_triangles) (sym e) (count_few cs ts i p few (λ j l. f.small j (omega arith))),
-      subst (λ q. nat_abs (volume_of q) ≤ 2 ^ 58) (sym e) (volume_small cs ts i p few (λ j l. f.small j (omega arith))),
-      subst (λ v. nat_abs v ≤ 2 ^ 34) (sym (kept_as c.determinant_at.result (determinant_at cs ts i) c.determinant_at.ensures.value (f.small i c.loop-i-test.true)))
-          (f.small i c.loop-i-test.true),
-    )
+    let few : i < most_triangles = omega (arith, f.few) in
+    record {
+      few = subst (λ q. count_of q < most_triangles) (sym e) (count_few cs ts i p few (λ j l. f.small j (omega arith)));
+      fits = subst (λ q. nat_abs (volume_of q) ≤ 2 ^ 58) (sym e) (volume_small cs ts i p few (λ j l. f.small j (omega arith)));
+      small =
+          subst (λ v. nat_abs v ≤ 2 ^ 34) (sym (kept_as c.determinant_at.result (determinant_at cs ts i) c.determinant_at.ensures.value (f.small i c.loop-i-test.true)))
+          (f.small i c.loop-i-test.true);
+    }
 
 pub loop-i-preserved : goal.loop-i-preserved
 loop-i-preserved c =
