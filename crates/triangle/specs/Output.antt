@@ -86,9 +86,9 @@ pub record Holds (bs : List ℕ) (old o : Out) (met : List Corner) (ts : List (T
   pub triangle_count : o.made ≡ length ts
   pub corners : o.corners.now ≡ filled (map (place (fraction_in bs)) met) old.corners.now
   pub triangles : o.triangles.now ≡ filled_triangles ts old.triangles.now
-  pub own_corners : o.corners.name ≡ old.corners.name
-  pub own_triangles : o.triangles.name ≡ old.triangles.name
-  pub own_work : o.work.name ≡ old.work.name
+  pub own_corners : o.corners.ghost_name ≡ old.corners.ghost_name
+  pub own_triangles : o.triangles.ghost_name ≡ old.triangles.ghost_name
+  pub own_work : o.work.ghost_name ≡ old.work.ghost_name
   pub room : 6 * (size_x bs * (size_y bs * size_z bs)) ≤ length o.work.now
   pub crossing : (c : Corner) → 0 < times same c met → Crossing bs c
   pub kept : (c : Corner) → 0 < times same c met → step_of c < 7 → slice_index o.work.now (slot bs c) ≡ index_of same c met
