@@ -1,8 +1,8 @@
-mod Verdicts
+pub mod Verdicts
 mod Reading
 mod Linking
 mod Sides
 mod Cycles
 mod Rings
-mod Compared
+pub mod Compared
 mod Deciding

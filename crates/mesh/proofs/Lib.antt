@@ -1,4 +1,4 @@
 mod Ranges
 pub mod Numbers
 mod Puts
-mod Back
+pub mod Back

@@ -23,10 +23,18 @@ pub fn number_parts(triangles: &mut [u32], corners: u32, work: &mut [u32]) -> Op
     if !takes(triangles, corners, work) {
         return None;
     }
+    Some(number_skin(triangles, corners, work))
+}
+
+// The same for triangles that are known to be taken, which are not looked at first.
+pub fn number_skin(triangles: &mut [u32], corners: u32, work: &mut [u32]) -> u32
+    requires { Takes triangles.old corners work.old }
+    ensures written { Written triangles.old corners work.old triangles.new result }
+{
     let roots = &mut work[0..corners as usize];
     find_roots(triangles, roots);
     write_roots(triangles, roots);
-    Some(give_numbers(triangles, roots))
+    give_numbers(triangles, roots)
 }
 
 // Whatever numbers the parts by linked corners numbers them as any other does; where there is one ring around each corner it numbers them by

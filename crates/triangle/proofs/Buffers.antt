@@ -20,7 +20,7 @@ module _ {X : Type 0} (g : X → List ℕ) (w : ℕ) (long : (x : X) → length 
   abbrev pub begun : List X → List ℕ → List ℕ
   begun xs old = flat_map g xs ++ drop (w * length xs) old
 
-  length_chunks : (xs : List X) → length (flat_map g xs) ≡ w * length xs
+  pub length_chunks : (xs : List X) → length (flat_map g xs) ≡ w * length xs
   length_chunks [] = sym (mul-zero w)
   length_chunks (x ∷ xs) = omega (arith, length-append (g x) (flat_map g xs), long x, length_chunks xs, mul-suc w (length xs))
 

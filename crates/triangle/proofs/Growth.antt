@@ -20,10 +20,10 @@ use Rattle.triangle.specs.declared.write.Out.{Out}
 use Rattle.triangle.proofs.Buffers.{begun_more, length_begun}
 use Rattle.triangle.proofs.Slots.{step_apart, slot_apart, slot_below}
 
-length_coordinates : (s : Place) → length (coordinates s) ≡ 3
+pub length_coordinates : (s : Place) → length (coordinates s) ≡ 3
 length_coordinates (pt x y z) = refl
 
-length_quad : (t : Tri ℕ) → length (quad t) ≡ 4
+pub length_quad : (t : Tri ℕ) → length (quad t) ≡ 4
 length_quad (tri a b c) = refl
 
 same_from : (c d : Corner) → c ≡ d → same c d ≡ true

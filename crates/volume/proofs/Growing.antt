@@ -129,6 +129,11 @@ module _ (cs ts : List ℕ) where
                 ∙ sym (measured_other n k (λ s. e (sym s)))
           ]
 
+  pub all_measured_past : (n m : ℕ) → m ≤ part_at ts n → all_measured cs ts n m ≡ all_measured cs ts (n + 1) m
+  all_measured_past n m l =
+      fill_by_all (measured cs ts (n + 1)) _ m (Inner 0 (pos 0)) (length-map-range_with_len (measured cs ts n) 0 m)
+      (λ k h. get_or-map-range_with_len (measured cs ts n) 0 m k k (Inner 0 (pos 0)) h (omega arith) ∙ sym (measured_other n k (λ s. omega arith)))
+
   pub measured_at : (n m p : ℕ) (d : Part) → p < m → get_or (all_measured cs ts n m) p d ≡ measured cs ts n p
   measured_at n m p d l = get_or-map-range_with_len (measured cs ts n) 0 m p p d l (omega arith)
 

@@ -5,6 +5,7 @@ use Rattle.std.proofs.lemmas.Bool.{and_parts, and_from, and_left, and_right, cas
 use Rattle.theory_volume.specs.Sizes.{most_coordinate, most_triangles}
 use Rattle.volume.specs.Buffer.{part_at, triangle_count}
 use Rattle.volume.specs.Measure.{each_below, whole, low, determinant_at, cornered, fine, measurable, Low}
+use Rattle.volume.specs.Bounded.{bounded_at, bounded}
 
 pub each_below_at : (n : ℕ) (t : ℕ → Bool) → each_below n t ≡ true → (i : ℕ) → i < n → t i ≡ true
 each_below_at zero t e i l = absurd (omega arith)
@@ -58,3 +59,26 @@ facts cs ts m e =
         let p = and_parts (cornered cs ts i) (ltb (part_at ts i) m && leb (nat_abs (determinant_at cs ts i)) (2 ^ 34)) e in
         let q = and_parts (ltb (part_at ts i) m) (leb (nat_abs (determinant_at cs ts i)) (2 ^ 34)) p.1 in
         (p.0, ltb-true (part_at ts i) m q.0, leb-true (nat_abs (determinant_at cs ts i)) (2 ^ 34) q.1)
+
+-- what is known where a skin can be measured in as many parts as there is room for
+pub record Bounds (cs ts : List ℕ) : Type 0 where
+  pub low_there : Low cs
+  pub few : triangle_count ts ≤ most_triangles
+  pub corners : (i : ℕ) → i < triangle_count ts → cornered cs ts i ≡ true
+  pub small : (i : ℕ) → i < triangle_count ts → nat_abs (determinant_at cs ts i) ≤ 2 ^ 34
+
+pub bounds : (cs ts : List ℕ) → bounded cs ts ≡ true → Bounds cs ts
+unfolding bounded
+bounds cs ts e =
+    let p = and_parts (whole cs ts) (each_below (length cs) (low cs) && each_below (triangle_count ts) (bounded_at cs ts)) e in
+    let q = and_parts (each_below (length cs) (low cs)) (each_below (triangle_count ts) (bounded_at cs ts)) p.1 in
+    let w = and_parts (eqb (length cs % 3) 0) (eqb (length ts % 4) 0 && leb (triangle_count ts) most_triangles) p.0 in
+    record {
+      low_there = low_all cs q.0;
+      few = leb-true (triangle_count ts) most_triangles (and_parts (eqb (length ts % 4) 0) (leb (triangle_count ts) most_triangles) w.1).1;
+      corners = λ i l. (parts i (each_below_at (triangle_count ts) (bounded_at cs ts) q.1 i l)).0;
+      small = λ i l. leb-true (nat_abs (determinant_at cs ts i)) (2 ^ 34) (parts i (each_below_at (triangle_count ts) (bounded_at cs ts) q.1 i l)).1;
+    }
+  where
+    parts : (i : ℕ) → bounded_at cs ts i ≡ true → (cornered cs ts i ≡ true) × (leb (nat_abs (determinant_at cs ts i)) (2 ^ 34) ≡ true)
+    parts i e = and_parts (cornered cs ts i) (leb (nat_abs (determinant_at cs ts i)) (2 ^ 34)) e

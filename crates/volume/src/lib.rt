@@ -7,6 +7,7 @@ ghost use Rattle.theory_volume.specs.Volume.{determinant};
 ghost use Rattle.theory_volume.specs.Sizes.{crossed, most_triangles};
 ghost use Rattle.volume.specs.Buffer.{place_in, corner_count, triangle_count};
 ghost use Rattle.volume.specs.Measure.{part_of, count_of, volume_of, all_measured, parts_of, each_below, whole, low, determinant_at, cornered, fine, measurable, Low};
+ghost use Rattle.volume.specs.Bounded.{bounded};
 
 // The largest coordinate of a skin, in 256ths of a grid step, the most triangles of one, and the largest determinant of one triangle.
 const MOST_COORDINATE: u32 = 24320;
@@ -38,6 +39,18 @@ pub fn measure(corners: &[u32], triangles: &[u32], parts: &mut [Part]) -> bool
     parts.fill(Part::new(0, 0));
     add_up(corners, triangles, parts);
     true
+}
+
+// Measures the parts of a skin that is known, as far as `parts` has room. One pass.
+pub fn measure_skin(corners: &[u32], triangles: &[u32], parts: &mut [Part])
+    requires bounded { bounded corners.now triangles.now ≡ true }
+    ensures written { parts.new ≡ parts_of corners.now triangles.now (length parts.old) }
+{
+    parts.fill(Part::new(0, 0));
+    let count = triangles.len() / 4;
+    for i in 0..count {
+        add_triangle(corners, triangles, i, parts);
+    }
 }
 
 impl Part {
@@ -87,6 +100,20 @@ fn add_up(corners: &[u32], triangles: &[u32], parts: &mut [Part])
         let number = triangles[4 * i + 3] as usize;
         let part = parts[number];
         parts[number] = part.with(determinant_at(corners, triangles, i));
+    }
+}
+
+// Adds the triangle at a place of the order to its part, if `parts` has an entry for that.
+fn add_triangle(corners: &[u32], triangles: &[u32], i: usize, parts: &mut [Part])
+    requires bounded { bounded corners.now triangles.now ≡ true }
+    requires there { i < triangle_count triangles.now }
+    requires before { parts.old ≡ all_measured corners.now triangles.now i (length parts.old) }
+    ensures added { parts.new ≡ all_measured corners.now triangles.now (i + 1) (length parts.old) }
+{
+    let owner = triangles[4 * i + 3] as usize;
+    if owner < parts.len() {
+        let before = parts[owner];
+        parts[owner] = before.with(determinant_at(corners, triangles, i));
     }
 }
 

@@ -1,16 +1,16 @@
 -- Roots are found, written and numbered in turn. Assumes nothing.
 use Rattle.std.proofs.Common.{◌≡◌, length, ◌∙◌, arith, length-take}
 use Rattle.part.proofs.Written.{triangles_same, by_links}
-use Rattle.part.proofs.number_parts.Goals as goal
+use Rattle.part.proofs.number_skin.Goals as goal
 
 pub returns : goal.returns
 returns c =
     let ns = c.args.triangles.now in
-    let taken = c.takes.ensures.value.0 c.if-not-takes.false in
+    let taken = c.requires in
     let long : length c.find_roots.new.roots ≡ c.args.corners =
     omega (arith, simp length-take at c.find_roots.auto.roots, taken.enough) in
     record {
-      cases = record {
+      written = record {
         taken = taken;
         same_corners = triangles_same ns _ (omega arith) (λ i h. c.give_numbers.ensures.same i h ∙ c.write_roots.ensures.same i h);
         numbered = by_links ns _ _ _ (omega arith) (omega arith) (λ i h k. omega (arith, taken.in_range i h k)) c.find_roots.ensures.rooted
