@@ -7,14 +7,23 @@ use checker::{check, work_needed};
 use mesh::Header;
 use std::alloc::{AllocError, Global};
 use std::io::Read;
+use std::process::ExitCode;
 use std::{env, fs, io};
 
 const USAGE: &str = "usage: check SKIN
 SKIN is a file of a skin's bytes, or - for standard input.
 A closed skin is answered by 'closed', any other by 'refused N at P', and status 1.";
 
-fn main(rt: HostRuntime) -> anyhow::Result<()> {
-    let args: Vec<String> = env::args(&rt)?.skip(1).collect(rt.alloc())?;
+// What went wrong is said by then: nothing is printed of it here, and the status is 1.
+fn main(rt: HostRuntime) -> ExitCode {
+    match answer(&rt) {
+        Ok(()) => ExitCode::SUCCESS,
+        Err(_) => ExitCode::FAILURE,
+    }
+}
+
+fn answer(rt: &HostRuntime) -> anyhow::Result<()> {
+    let args: Vec<String> = env::args(rt)?.skip(1).collect(rt.alloc())?;
     if args.len() != 1 {
         rt.eprintln(USAGE)?;
         return Err(anyhow!("wrong use"));
@@ -23,7 +32,7 @@ fn main(rt: HostRuntime) -> anyhow::Result<()> {
         rt.println(USAGE)?;
         return Ok(());
     }
-    run(&rt, args[0].as_str())
+    run(rt, args[0].as_str())
 }
 
 fn run(rt: &HostRuntime, name: &str) -> anyhow::Result<()> {

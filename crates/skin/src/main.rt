@@ -9,6 +9,7 @@ use anyhow::anyhow;
 use input::contents;
 use made::{Skin, Trouble, skin_of};
 use output::save;
+use std::process::ExitCode;
 use std::{env, io};
 use volume::Part;
 
@@ -16,17 +17,25 @@ const USAGE: &str = "usage: skin BLOCK [OUT]
 BLOCK is a file of a block's bytes, or - for standard input. The skin's bytes are written to OUT, if it is named.
 A block that is refused is answered by 'refused N at P', and status 1.";
 
-fn main(rt: HostRuntime) -> anyhow::Result<()> {
-    let args: Vec<String> = env::args(&rt)?.skip(1).collect(rt.alloc())?;
+// What went wrong is said by then: nothing is printed of it here, and the status is 1.
+fn main(rt: HostRuntime) -> ExitCode {
+    match answer(&rt) {
+        Ok(()) => ExitCode::SUCCESS,
+        Err(_) => ExitCode::FAILURE,
+    }
+}
+
+fn answer(rt: &HostRuntime) -> anyhow::Result<()> {
+    let args: Vec<String> = env::args(rt)?.skip(1).collect(rt.alloc())?;
     if args.len() == 1 && args[0].as_str() == "--help" {
         rt.println(USAGE)?;
         return Ok(());
     }
     if args.len() == 1 {
-        return run(&rt, args[0].as_str(), "");
+        return run(rt, args[0].as_str(), "");
     }
     if args.len() == 2 {
-        return run(&rt, args[0].as_str(), args[1].as_str());
+        return run(rt, args[0].as_str(), args[1].as_str());
     }
     rt.eprintln(USAGE)?;
     Err(anyhow!("wrong use"))
