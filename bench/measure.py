@@ -65,7 +65,7 @@ def checking(programs, folder, turns):
         report.progress('checking: ' + name)
         skin, stl = os.path.join(folder, name + '.skin'), os.path.join(folder, name + '.stl')
         ours.save_stl(stl, *ours.skin(programs, os.path.join(folder, name + '.block'), skin))
-        commands = {'check': [os.path.join(programs, 'check'), skin]}
+        commands = {'check': [os.path.join(programs, 'check_skin'), skin]}
         if shutil.which('admesh'):
             commands.update({'admesh': ['admesh', stl], 'admesh --exact': ['admesh', '--exact', stl]})
         entry = found[name] = {label: [] for label in commands}
