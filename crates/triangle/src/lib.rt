@@ -5,11 +5,14 @@ ghost use Rattle.std.specs.Prelude.{◌≡◌, ◌*◌, Some, MatchResult};
 ghost use Rattle.block.specs.Scan.{bytes_in, size_x, size_y, size_z, refusal_of};
 ghost use Rattle.triangle.specs.Built.{Built, Needed, Refused};
 
+mod cases;
 mod count;
 mod cube;
+mod scan;
 mod write;
 
 use block::{Block, Refusal};
+use cases::all_cases;
 use count::count_block;
 use write::write_block;
 
@@ -32,7 +35,8 @@ pub fn build(
     ensures cases { MatchResult result (Built bytes.now corners.old triangles.old work.old corners.new triangles.new) (Refused bytes.now corners.old triangles.old work.old corners.new triangles.new work.new) }
 {
     let block = Block::read(bytes)?;
-    let counts = count_block(&block);
+    let cases = all_cases();
+    let counts = count_block(&cases, &block);
     if corners.len() / 3 < counts.corners as usize {
         return Err(Refusal::ShortBuffer(corners.len() / 3));
     }
@@ -42,7 +46,7 @@ pub fn build(
     if work.len() < 6 * points(&block) {
         return Err(Refusal::ShortBuffer(0));
     }
-    write_block(&block, corners, triangles, work);
+    write_block(&cases, &block, corners, triangles, work);
     Ok(counts)
 }
 
@@ -51,7 +55,7 @@ pub fn needed(bytes: &[u8]) -> Result<Counts, Refusal>
     ensures cases { MatchResult result (Needed bytes.now) (λ e. refusal_of bytes.now ≡ Some e) }
 {
     let block = Block::read(bytes)?;
-    Ok(count_block(&block))
+    Ok(count_block(&all_cases(), &block))
 }
 
 fn points(block: &Block) -> usize
