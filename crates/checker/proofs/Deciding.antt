@@ -2,7 +2,7 @@
 use Rattle.std.proofs.Common.{◌≡◌, ℕ, List, Some, None, Option, refl, arith}
 use Rattle.block.specs.declared.refusal.Refusal.{Refusal}
 use Rattle.block.specs.declared.refusal.Refusal.TheVariants.{BadPart}
-use Rattle.theory_parts.specs.Buffer.{triangle_at, count_in, triangles_in}
+use Rattle.part.specs.Buffer.{triangle_at, count_in, triangles_in}
 use Rattle.checker.specs.Verdict.{Matched, RingedOnce, All, PartsVerdict, SideVerdict}
 use Rattle.checker.specs.Verdict.Rule.{fault, passed}
 use Rattle.checker.specs.Verdict.PartsVerdict.{by_first_triangle}

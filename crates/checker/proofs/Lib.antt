@@ -1,9 +1,8 @@
 pub mod Verdicts
 mod Reading
 mod Linking
-mod Counting
+mod Sides
 mod Cycles
-mod Rounds
-mod Around
+mod Rings
 pub mod Compared
 mod Deciding

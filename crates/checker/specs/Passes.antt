@@ -1,13 +1,13 @@
 -- What each pass of the checker computes of the triangles, whose numbers are ns, four for each. Assumes nothing.
-use Rattle.std.specs.Prelude.{◌≡◌, ℕ, zero, suc, ◌+◌, ◌*◌, ◌^◌, ◌<◌, ◌≤◌, cond, not, ◌≢◌, List, [], ◌∷◌, ◌++◌, length, set, Some, None, Option, ◌==◌, nat_eq, slice_index, slice_set}
+use Rattle.std.specs.Prelude.{◌≡◌, ℕ, zero, suc, ◌+◌, ◌*◌, ◌^◌, ◌<◌, ◌≤◌, cond, List, [], ◌∷◌, ◌++◌, length, set, Some, None, Option, ◌==◌, ◌≢◌, nat_eq, slice_index, slice_set}
 use Rattle.std.specs.List.{AllByRecursion}
-use Rattle.theory.specs.Triangle.{Tri, tri, one_if, has, side, sides, with_corner, read_from}
+use Rattle.theory.specs.Triangle.{Tri, tri, one_if, has, side, sides, read_from}
 use Rattle.theory.specs.Faces.{sum_below}
-use Rattle.theory_parts.specs.Buffer.{triangle_at, count_in, triangles_in, parts_in}
+use Rattle.part.specs.Buffer.{triangle_at, count_in, triangles_in, parts_in}
 use Rattle.std.specs.Borrow.{Bor}
-use Rattle.checker.specs.declared.chains.Chains.{Chains}
-use Rattle.checker.specs.declared.chains.Seen.{Seen}
-use Rattle.checker.specs.declared.chains.Step.{Step}
+use Rattle.checker.specs.declared.Chains.{Chains}
+use Rattle.checker.specs.declared.Seen.{Seen}
+use Rattle.checker.specs.declared.Step.{Step}
 use Rattle.theory_parts.specs.Parts.{Numbered}
 use Rattle.block.specs.declared.refusal.Refusal.{Refusal}
 use Rattle.block.specs.declared.refusal.Refusal.TheVariants.{BadSide, BadRing}
@@ -122,56 +122,26 @@ pub record Narrowed (ns : List ℕ) (c worst r : ℕ) : Type 0 where
 abbrev pub Follows : List ℕ → ℕ → ℕ → List ℕ → Type 0
 Follows ns c j follow = (i : ℕ) → i < j → AllByRecursion (λ p. slice_index follow p.0 ≡ p.1) (read_from nat_eq c (triangle_at ns i))
 
--- stands for what follows a corner where nothing does
-abbrev pub nobody : ℕ
-nobody = 4294967295
-
--- nobody is followed
-abbrev pub Blank : List ℕ → Type 0
-Blank follow = (d : ℕ) → d < length follow → slice_index follow d ≡ nobody
-
--- what follows a corner, if anything, is the place of one
+-- every entry is the place of one
 abbrev pub Within : List ℕ → Type 0
-Within follow = (d : ℕ) → d < length follow → slice_index follow d ≢ nobody → slice_index follow d < length follow
-
--- of the triangles before place j that have c, `follow` has the steps, and no two of them start at one corner
-pub record Joined (ns : List ℕ) (c j : ℕ) (follow : List ℕ) : Type 0 where
-  pub follows : Follows ns c j follow
-  pub once : (d : ℕ) → d < length follow → before ns j (side nat_eq c d) ≡ one_if (not (slice_index follow d == nobody))
-  pub within : Within follow
-
--- all triangles at c are joined, and there are n of them
-pub record AllJoined (ns : List ℕ) (c : ℕ) (follow : List ℕ) (n : ℕ) : Type 0 where
-  pub joined : Joined ns c (count_in ns) follow
-  pub many : n ≡ with_corner nat_eq c (triangles_in ns)
+Within follow = (d : ℕ) → d < length follow → slice_index follow d < length follow
 
 -- where k steps lead from s
 abbrev pub led : (ℕ → ℕ) → ℕ → ℕ → ℕ
 led f s zero = s
 led f s (suc k) = led f (f s) k
 
-abbrev pub led_in : List ℕ → ℕ → ℕ → ℕ
-led_in follow = led (λ d. slice_index follow d)
+-- no way back to s in fewer than n steps
+abbrev pub NoReturn : (ℕ → ℕ) → ℕ → ℕ → Type 0
+NoReturn f s n = (j : ℕ) → 0 < j → j < n → led f s j ≢ s
 
--- n steps can be taken from s, each from another corner
-pub record Steps (follow : List ℕ) (s n : ℕ) : Type 0 where
-  pub onward : (k : ℕ) → k < n → slice_index follow (led_in follow s k) ≢ nobody
-  pub apart : (j k : ℕ) → j < k → k < n → led_in follow s j ≢ led_in follow s k
-
--- and they lead back
-pub record Round (follow : List ℕ) (s n : ℕ) : Type 0 where
-  pub steps : Steps follow s n
-  pub there : led_in follow s n ≡ s
-
--- what is left of `follow` after n steps from s: nobody follows who was left, and the rest is as it was
-pub record Cleared (follow : List ℕ) (s n : ℕ) (after : List ℕ) : Type 0 where
-  pub gone : (k : ℕ) → k < n → slice_index after (led_in follow s k) ≡ nobody
-  pub kept : (d : ℕ) → ((k : ℕ) → k < n → led_in follow s k ≢ d) → slice_index after d ≡ slice_index follow d
-
--- no two triangles run from c to one of the n corners, and whoever runs to c is run to from c
-pub record Returned (ts : List (Tri ℕ)) (n c : ℕ) : Type 0 where
-  pub once : (d : ℕ) → d < n → sides nat_eq c d ts ≤ 1
-  pub reverse : (d : ℕ) → 0 < sides nat_eq d c ts → 0 < sides nat_eq c d ts
+-- the first way back to s, in fewer than n steps
+pub record EarlyReturn (f : ℕ → ℕ) (s n : ℕ) : Type 0 where
+  pub taken : ℕ
+  pub some : 0 < taken
+  pub early : taken < n
+  pub first : NoReturn f s taken
+  pub there : led f s taken ≡ s
 
 -- the rules on sides and on rings
 abbrev pub ClosedVerdict : List ℕ → ℕ → Option Refusal → Type 0

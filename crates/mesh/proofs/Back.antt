@@ -6,7 +6,7 @@ use Rattle.std.proofs.lemmas.List.{append_assoc, append-nil, take-append-drop, t
 use Rattle.std.proofs.lemmas.Bool.{le-ltb, ltb-false, cond-false}
 use Rattle.block.specs.declared.refusal.Refusal.{Refusal}
 use Rattle.theory.specs.Skin.{below}
-use Rattle.mesh.specs.Bytes.{short_at, number_at, corner_count, triangle_count, part_count, triangles_from, coordinates_in, numbers_in, skin_end, length_fault}
+use Rattle.mesh.specs.Bytes.{short_at, number_at, corner_count, triangle_count, part_count, triangles_from, coordinates_in, triangles_in, skin_end, length_fault}
 use Rattle.mesh.specs.Written.{two_bytes, four_bytes, skin_bytes, skin_size, ReadBack, WrittenBack}
 use Rattle.mesh.proofs.Ranges.{every_get_or}
 use Rattle.mesh.proofs.Numbers.{length_listed, get_or_listed}
@@ -163,7 +163,7 @@ written_back bs bytes h =
     let from = triangles_from bs in
     let byte : (i : ℕ) → i < length bs → get_or bs i 0 < 256 = λ i l. every_get_or (λ b. b < 256) bs i l bytes in
     let corners : length (coordinates_in bs) / 3 ≡ corner_count bs = omega (arith, length_listed (λ i. short_at bs (12 + 2 * i)) (3 * corner_count bs)) in
-    let triangles : length (numbers_in bs) / 4 ≡ triangle_count bs = omega (arith, length_listed (λ i. number_at bs (from + 4 * i)) (4 * triangle_count bs)) in
+    let triangles : length (triangles_in bs) / 4 ≡ triangle_count bs = omega (arith, length_listed (λ i. number_at bs (from + 4 * i)) (4 * triangle_count bs)) in
     record {
       verdict = h;
       again =

@@ -35,8 +35,8 @@ triangles_from bs = 12 + 6 * corner_count bs
 abbrev pub coordinates_in : List ℕ → List ℕ
 coordinates_in bs = below (3 * corner_count bs) (λ i. short_at bs (12 + 2 * i) ∷ [])
 
-abbrev pub numbers_in : List ℕ → List ℕ
-numbers_in bs = below (4 * triangle_count bs) (λ i. number_at bs (triangles_from bs + 4 * i) ∷ [])
+abbrev pub triangles_in : List ℕ → List ℕ
+triangles_in bs = below (4 * triangle_count bs) (λ i. number_at bs (triangles_from bs + 4 * i) ∷ [])
 
 -- the place behind the last triangle: six bytes a corner, sixteen a triangle
 abbrev pub skin_end : List ℕ → ℕ

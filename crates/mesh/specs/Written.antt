@@ -2,7 +2,7 @@
 -- writing undoes reading. Assumes nothing.
 use Rattle.std.specs.Prelude.{◌≡◌, ℕ, ◌+◌, ◌*◌, ◌/◌, ◌%◌, ◌^◌, ◌<◌, Bool, true, cond, ◌&&◌, List, [], ◌∷◌, ◌++◌, length, drop, Some, None, Option, ◌==◌, nat_le, nat_lt}
 use Rattle.std.specs.List.{flat_map, AllByRecursion}
-use Rattle.mesh.specs.Bytes.{corner_count, triangle_count, part_count, coordinates_in, numbers_in, length_fault}
+use Rattle.mesh.specs.Bytes.{corner_count, triangle_count, part_count, coordinates_in, triangles_in, length_fault}
 
 -- a number below 65536 in two bytes, and one below 2 ^ 32 in four, the low byte first
 abbrev pub two_bytes : ℕ → List ℕ
@@ -71,7 +71,7 @@ pub record Holds (bs corners triangles : List ℕ) (parts : ℕ) : Type 0 where
   pub triangles_counted : triangle_count bs ≡ length triangles / 4
   pub parts_counted : part_count bs ≡ parts
   pub coordinates_are : coordinates_in bs ≡ corners
-  pub numbers_are : numbers_in bs ≡ triangles
+  pub numbers_are : triangles_in bs ≡ triangles
 
 -- reading undoes writing
 abbrev pub ReadBack : Type 0
@@ -80,7 +80,7 @@ ReadBack = (corners triangles : List ℕ) (parts : ℕ) → InRange corners tria
 -- what is known of bytes that are taken: they are the bytes of the skin in them
 pub record Taken (bs : List ℕ) : Type 0 where
   pub verdict : length_fault bs ≡ None
-  pub again : skin_bytes (coordinates_in bs) (numbers_in bs) (part_count bs) ≡ bs
+  pub again : skin_bytes (coordinates_in bs) (triangles_in bs) (part_count bs) ≡ bs
 
 -- writing undoes reading
 abbrev pub WrittenBack : Type 0

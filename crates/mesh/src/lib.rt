@@ -3,7 +3,7 @@
 
 ghost use Rattle.std.specs.Prelude.{◌≡◌, ◌+◌, ◌*◌, ◌%◌, ◌^◌, ◌<◌, true, length, take, IfSome, Some, None, MatchResult, slice_index};
 ghost use Rattle.std.specs.List.{flat_map};
-ghost use Rattle.mesh.specs.Bytes.{bytes_in, short_at, number_at, corner_count, triangle_count, part_count, triangles_from, coordinates_in, numbers_in, length_fault, Counted};
+ghost use Rattle.mesh.specs.Bytes.{bytes_in, short_at, number_at, corner_count, triangle_count, part_count, coordinates_in, triangles_in, length_fault, Counted};
 ghost use Rattle.mesh.specs.Written.{two_bytes, four_bytes, header_bytes, corner_bytes, triangle_bytes, all_below, writable, written, buffer_after, Holds, Taken, ReadBack, WrittenBack};
 
 use block::Refusal;
@@ -97,32 +97,13 @@ impl<'a> Skin<'a> {
 
     // A number of a triangle, of which each has four, its three corners and its part; 0 past the last. Constant time.
     pub fn number(&self, i: usize) -> u32
-        ensures value { result ≡ slice_index (numbers_in (bytes_in self.entry)) i }
+        ensures value { result ≡ slice_index (triangles_in (bytes_in self.entry)) i }
     {
         if i < 4 * self.triangles() as usize {
-            number(self.bytes, self.triangles_from() + 4 * i)
+            number(self.bytes, HEADER + 6 * self.corners() as usize + 4 * i)
         } else {
             0
         }
-    }
-
-    // Copies the numbers of all triangles into a buffer of just that length. Linear time.
-    pub fn copy_numbers(&self, numbers: &mut [u32])
-        requires { length numbers.old ≡ 4 * triangle_count (bytes_in self) }
-        ensures after { numbers.new ≡ numbers_in (bytes_in self.entry) }
-    {
-        let from = self.triangles_from();
-        for i in 0..numbers.len() {
-            numbers[i] = number(self.bytes, from + 4 * i);
-        }
-    }
-
-    // Where the triangles begin.
-    fn triangles_from(&self) -> usize
-        ensures value { result ≡ triangles_from (bytes_in self.entry) }
-        ensures bound { result < 2 ^ 40 }
-    {
-        HEADER + 6 * self.corners() as usize
     }
 }
 

@@ -1,13 +1,14 @@
 -- The spokes of triangles, from the first corner to the second and the third, connect what the triangles link. Assumes nothing.
-use Rattle.std.proofs.Common.{◌≡◌, ℕ, ◌+◌, ◌*◌, ◌<◌, eqb, List, length, get_or, sym, refl, ap, ◌∙◌, subst, inl, inr, arith}
+use Rattle.std.proofs.Common.{◌≡◌, ℕ, ◌+◌, ◌*◌, ◌<◌, eqb, List, get_or, sym, refl, ap, ◌∙◌, subst, inl, inr, arith}
 use mathlib.Core.Logic.Iff
 use Rattle.std.proofs.lemmas.Bool.{cases_lt}
 use Rattle.theory.specs.Triangle.{has}
 use Rattle.theory_parts.specs.Parts.{Connected, step, back, onward, ShareTriangle}
-use Rattle.part.specs.Forest.{Forest, Alone, Link, Alike, Tells}
-use Rattle.theory_parts.specs.Buffer.{triangle_at, count_in, triangles_in}
-use Rattle.part.specs.Passes.{Spoke, PlusSpokes, Told}
+use Rattle.part.specs.Forest.{Forest, Alone, Flat, Link, Alike}
+use Rattle.part.specs.Buffer.{triangle_at, count_in, triangles_in}
+use Rattle.part.specs.Passes.{Spoke, PlusSpokes, Rooted}
 use Rattle.part.proofs.Connection.{connected_same, alike_trans, alike_tells}
+use Rattle.part.proofs.Trees.{flat_tells}
 use Rattle.part.proofs.Places.{stands_in, in_stands, has_one, one_had}
 
 pub alone_forest : (p : List ℕ) → Alone p → Forest p
@@ -67,10 +68,10 @@ module _ (ns : List ℕ) where
             (spoke_to s.place r.0 d (subst (λ t. 0 < has eqb d t) (sym r.1) s.has_d));
       }
 
-  -- numbers of trees that connect what the spokes do tell linked corners
-  pub told : (p numbers : List ℕ) → length numbers ≡ length p → Tells p numbers → Alike (Link p) (Spoke ns (count_in ns)) → Told ns numbers
-  told p numbers long t alike =
+  -- flat trees that connect what the spokes do have the roots of linked corners
+  pub rooted : (p : List ℕ) → Forest p → Flat p → Alike (Link p) (Spoke ns (count_in ns)) → Rooted ns p
+  rooted p forest flat alike =
       record {
-        below = λ a l. omega (arith, t.below a (omega arith));
-        tells = λ a b l m. Iff.trans (t.tells a b (omega arith) (omega arith)) (alike_tells (alike_trans alike spokes_share));
+        below = λ a l. omega (arith, forest a l);
+        tells = λ a b l m. Iff.trans (flat_tells p a b flat l m) (alike_tells (alike_trans alike spokes_share));
       }

@@ -1,17 +1,16 @@
 // The parts of a skin: which triangles hang together, numbered by their first triangle.
 #![tactic(auto)]
 
-ghost use Rattle.std.specs.Prelude.{◌≡◌, ℕ, ◌%◌, ◌^◌, ◌<◌, true, ◌↔◌, length, Some, MatchOption, slice_index};
+ghost use Rattle.std.specs.Prelude.{◌≡◌, ◌^◌, ◌<◌, true, ◌↔◌, length, MatchOption, slice_index};
 ghost use Rattle.theory_parts.specs.Parts.{InTurn};
 ghost use Rattle.part.specs.Forest.{Forest, Link, Alike};
-ghost use Rattle.theory_parts.specs.Buffer.{count_in, parts_in};
-ghost use Rattle.part.specs.Taking.{InRange, Takes};
+ghost use Rattle.part.specs.Buffer.{count_in, parts_in, InRange, Takes};
 ghost use Rattle.part.specs.Links.{OnlyByLinks, LinksNumberParts, SkinsNumbered, Refused, Written};
-ghost use Rattle.part.specs.Passes.{PlusSpokes, Told, SameCorners, HoldsNumbers, PartsBelow, SameParts, given_at};
+ghost use Rattle.part.specs.Passes.{PlusSpokes, Rooted, SameCorners, HoldsRoots, PartsBelow, SameParts, given_at};
 
 mod forest;
 
-// Stands for the new number of a number that has none yet. There are no more parts than corners, so no part has it for its number.
+// Stands for the number of a root that has none yet. There are no more parts than corners, so no part has it for its number.
 const UNNUMBERED: u32 = u32::MAX;
 
 // Writes the number of each triangle's part, and says how many parts there are. A triangle is four numbers: its three corners' and its
@@ -32,12 +31,10 @@ pub fn number_skin(triangles: &mut [u32], corners: u32, work: &mut [u32]) -> u32
     requires { Takes triangles.old corners work.old }
     ensures written { Written triangles.old corners work.old triangles.new result }
 {
-    let numbers = &mut work[0..corners as usize];
-    number_corners(triangles, numbers);
-    match write_numbers(triangles, numbers) {
-        Some(count) => count,
-        None => give_numbers(triangles, numbers),
-    }
+    let roots = &mut work[0..corners as usize];
+    find_roots(triangles, roots);
+    write_roots(triangles, roots);
+    give_numbers(triangles, roots)
 }
 
 // Whatever numbers the parts by linked corners numbers them as any other does; where there is one ring around each corner it numbers them by
@@ -57,30 +54,26 @@ fn takes(triangles: &[u32], corners: u32, work: &[u32]) -> bool
 }
 
 fn in_range(triangles: &[u32], corners: u32) -> bool
-    requires { length triangles.now % 4 ≡ 0 }
     ensures value { (result ≡ true) ↔ InRange triangles.now corners }
 {
-    for i in 0..triangles.len() / 4 {
-        if triangles[4 * i] >= corners
-            || triangles[4 * i + 1] >= corners
-            || triangles[4 * i + 2] >= corners
-        {
+    for i in 0..triangles.len() {
+        if i % 4 < 3 && triangles[i] >= corners {
             return false;
         }
     }
     true
 }
 
-// Numbers the corners, so that linked ones, and no others, have one number.
-fn number_corners(triangles: &[u32], numbers: &mut [u32])
-    requires { (InRange triangles.now (length numbers.old)) × (length numbers.old < 2 ^ 32) }
-    ensures told { Told triangles.now numbers.new }
+// Finds for each corner the smallest corner that it is linked to.
+fn find_roots(triangles: &[u32], roots: &mut [u32])
+    requires { (InRange triangles.now (length roots.old)) × (length roots.old < 2 ^ 32) }
+    ensures rooted { Rooted triangles.now roots.new }
 {
-    forest::set_alone(numbers);
+    forest::set_alone(roots);
     for i in 0..triangles.len() / 4 {
-        unite_triangle(triangles, i, numbers);
+        unite_triangle(triangles, i, roots);
     }
-    forest::number_trees(numbers);
+    forest::flatten(roots);
 }
 
 fn unite_triangle(triangles: &[u32], i: usize, parents: &mut [u32])
@@ -88,37 +81,22 @@ fn unite_triangle(triangles: &[u32], i: usize, parents: &mut [u32])
     ensures forest { Forest parents.new }
     ensures alike { Alike (Link parents.new) (PlusSpokes triangles.now i (Link parents.old)) }
 {
-    forest::unite_three(
-        parents,
-        triangles[4 * i],
-        triangles[4 * i + 1],
-        triangles[4 * i + 2],
-    );
+    forest::unite(parents, triangles[4 * i], triangles[4 * i + 1]);
+    forest::unite(parents, triangles[4 * i], triangles[4 * i + 2]);
 }
 
-// Writes the number of its first corner into each triangle. Says how many numbers there are if they come in turn, as they do where corners
-// are numbered as triangles meet them.
-fn write_numbers(triangles: &mut [u32], numbers: &[u32]) -> Option<u32>
-    requires { (InRange triangles.old (length numbers.now)) × ((Told triangles.old numbers.now) × (length numbers.now < 2 ^ 32)) }
+// Writes the root of its first corner into each triangle.
+fn write_roots(triangles: &mut [u32], roots: &[u32])
+    requires { InRange triangles.old (length roots.now) }
     ensures same { SameCorners triangles.old triangles.new }
-    ensures written { HoldsNumbers numbers.now triangles.old triangles.new }
-    ensures turn { (n : ℕ) → result ≡ Some n → InTurn 0 (parts_in triangles.new) n }
+    ensures written { HoldsRoots roots.now triangles.old triangles.new }
 {
-    let mut in_turn = true;
-    let mut count: u32 = 0;
     for i in 0..triangles.len() / 4 {
-        let number = numbers[triangles[4 * i] as usize];
-        triangles[4 * i + 3] = number;
-        if number == count {
-            count += 1;
-        } else if number > count {
-            in_turn = false;
-        }
+        triangles[4 * i + 3] = roots[triangles[4 * i] as usize];
     }
-    if in_turn { Some(count) } else { None }
 }
 
-// Puts numbers in turn in the place of others, and says how many it gave. What `numbers` held before does not matter.
+// Puts numbers in turn in the place of roots, and says how many it gave. What `numbers` held before does not matter.
 fn give_numbers(triangles: &mut [u32], numbers: &mut [u32]) -> u32
     requires { (PartsBelow triangles.old (length numbers.old)) × (length numbers.old < 2 ^ 32) }
     ensures same { SameCorners triangles.old triangles.new }
@@ -128,26 +106,25 @@ fn give_numbers(triangles: &mut [u32], numbers: &mut [u32]) -> u32
     numbers.fill(UNNUMBERED);
     let mut count = 0;
     for i in 0..triangles.len() / 4 {
-        let at = 4 * i + 3;
-        let number = number_of(numbers, triangles[at], count);
+        let number = number_of(numbers, triangles[4 * i + 3], count);
         if number == count {
             count += 1;
         }
-        triangles[at] = number;
+        triangles[4 * i + 3] = number;
     }
     count
 }
 
-// The new number of a number, which is the next one if it has none.
-fn number_of(numbers: &mut [u32], old: u32, next: u32) -> u32
-    requires { old < length numbers.old }
-    ensures given { numbers.new ≡ given_at numbers.old old next }
-    ensures value { result ≡ slice_index numbers.new old }
+// The number of a root, which is the next one if it has none.
+fn number_of(numbers: &mut [u32], root: u32, next: u32) -> u32
+    requires { root < length numbers.old }
+    ensures given { numbers.new ≡ given_at numbers.old root next }
+    ensures value { result ≡ slice_index numbers.new root }
 {
-    if numbers[old as usize] == UNNUMBERED {
-        numbers[old as usize] = next;
+    if numbers[root as usize] == UNNUMBERED {
+        numbers[root as usize] = next;
     }
-    numbers[old as usize]
+    numbers[root as usize]
 }
 
 #[cfg(test)]

@@ -1,12 +1,12 @@
 -- A cube adds one corner for each edge that ends at its highest point and crosses, and the triangles of its pieces. Assumes nothing.
-use Rattle.std.proofs.Common.{◌≡◌, ℕ, zero, suc, ◌+◌, ◌-◌, ◌*◌, ◌<◌, ◌≤◌, min, Bool, true, false, not, eqb, leb, ◌≢◌, ◌⊎◌, List, [], ◌∷◌, ◌++◌, length, None, sym, refl, ap, ◌∙◌, subst, ap₂, subst₂, inl, inr, ⊎_elim, add-one, arith, length-append}
+use Rattle.std.proofs.Common.{◌≡◌, ℕ, zero, suc, ◌+◌, ◌-◌, ◌*◌, ◌<◌, ◌≤◌, min, Bool, true, false, cond, not, eqb, ltb, leb, ◌≢◌, ◌⊎◌, List, [], ◌∷◌, ◌++◌, length, sym, refl, ap, ◌∙◌, subst, ap₂, subst₂, inl, inr, ⊎_elim, arith, length-append}
 use mathlib.Core.Bool.{beq}
-use Rattle.std.proofs.lemmas.List.{length-map}
-use Rattle.std.proofs.lemmas.Bool.{or_cases, both_ways, cases_Bool, cases_lt, eq-eqb, ne_eqb, leb-true, lt-ltb, le-ltb, cond-true, cond-false}
+use lib.Count.{ones}
+use Rattle.std.proofs.lemmas.Bool.{or_cases, both_ways, cases_Bool, cases_lt, eqb-true, eq-eqb, ne_eqb, leb-true, lt-ltb, le-ltb, cond-true, cond-false}
 use Rattle.std.specs.List.{flat_map, AllByRecursion}
 use Rattle.theory.specs.Grid.{Point, pt, same_point, Offset, off, lowest, +x, +y, +z, +xy, +xz, +yz, highest, raised, ◌⊕◌}
 use Rattle.theory.specs.Triangle.{edge, one_if, sum_of, has, times, with_corner}
-use Rattle.theory.specs.Skin.{Corner, same, cube}
+use Rattle.theory.specs.Skin.{Corner, Triangle, same, cube, below}
 use Rattle.theory.proofs.Sums.{sum_append, sum_joined, every_append}
 use Rattle.theory.specs.Closed.{Neighbours}
 use Rattle.theory.proofs.Same.{same_point_true, same_point_refl, same_true, same_refl}
@@ -16,22 +16,24 @@ use Rattle.theory_numbers.proofs.Firsts.{length_le, same_from}
 use Rattle.theory_numbers.proofs.Numbered.{met_once, met_had}
 use Rattle.theory_numbers.proofs.Order.{in_order, first_met}
 use Rattle.theory_numbers.proofs.Crossed.{top_has}
-use Rattle.block.specs.Scan.{size_x, size_y, size_z, inside}
-use Rattle.piece.specs.Table.{bit, offset_number, offset_at, triangles_in}
-use Rattle.triangle.specs.Cubes.{lowest_of, case_in, OfBlock}
-use Rattle.triangle.specs.Rows.{RowOf}
+use Rattle.block.specs.Scan.{size_x, size_y, size_z, inside, Taken}
+use Rattle.piece.specs.Table.{bit, offset_number, offset_at}
+use Rattle.triangle.specs.Cubes.{lowest_of, plain, piece_triangles, OfBlock}
 use Rattle.triangle.specs.Slots.{step_of}
 use Rattle.triangle.specs.Output.{Crossing}
 use Rattle.triangle.specs.Progress.{earlier}
-use Rattle.triangle.specs.Cases.{cube_table, new_corners, new_triangles}
-use Rattle.triangle.specs.Counting.{Counted}
+use Rattle.triangle.specs.Counting.{new_corners, Counted}
 use Rattle.triangle.specs.declared.Counts.{Counts}
 use Rattle.triangle.specs.declared.cube.Cube.{Cube}
-use Rattle.triangle.proofs.Slots.{across, either_of, step_at, upper_at, directed, rise_of, upper_rise}
-use Rattle.triangle.proofs.Tables.{at_below, at_most_two, case_below}
+use Rattle.triangle.proofs.Slots.{across, either_of, step_at, upper_at, directed, Rise, rise_of, upper_rise}
+use Rattle.triangle.proofs.Tables.{all_below, at_below}
 use Rattle.triangle.proofs.Corners.{cube_crosses}
-use Rattle.triangle.proofs.Computed.{case_facts}
-use Rattle.triangle.proofs.Pieces.{cube_by_table}
+use Rattle.triangle.proofs.Pieces.{cube_is, plain_empty}
+
+-- by who of eight points is inside, as the code counts
+pub counted_bits : (b : ℕ) → b < 256 → cond (ltb b 128) (ones b) (8 - ones b) ≡ new_corners b
+unfolding ones
+counted_bits b l = eqb-true _ _ (at_below 256 (λ b. eqb (cond (ltb b 128) (ones b) (8 - ones b)) (new_corners b)) refl b l)
 
 pub few_new : (b : ℕ) → new_corners b ≤ 7
 few_new b = omega (arith, le 0, le 1, le 2, le 3, le 4, le 5, le 6)
@@ -266,29 +268,27 @@ module _ (bs : List ℕ) (k : Cube) (h : OfBlock bs k) where
       let b = length_le same same_true same_refl (corners_met (earlier bs l) ++ tops) (corners_met (earlier bs l ++ cube f l)) no_less in
       omega (arith, length-append (corners_met (earlier bs l)) tops, length_tops)
 
-pub few_triangles : (b : ℕ) → new_triangles b ≤ 12
-few_triangles b = omega (arith, two 0, two 1, two 2, two 3, two 4, two 5)
-  where
-    two : (w : ℕ) → length (triangles_in (case_in b w)) ≤ 2
-    two w = at_most_two (case_in b w) (case_below b w)
-
-triangles_more : (bs : List ℕ) (k : Cube) → OfBlock bs k → length (cube (inside bs) (lowest_of k)) ≡ new_triangles k.bits
-triangles_more bs k h = ap length (cube_by_table bs k h) ∙ length-map (cube_table k.bits) _ ∙ (case_facts k.bits h.byte).triangle_count
-
--- what a cube adds
 pub cube_counted :
-    (bs : List ℕ) (k : Cube) → OfBlock bs k →
-    Counted bs (lowest_of k) (pt (suc k.x) k.y k.z) 1 (record { corners = new_corners k.bits; triangles = new_triangles k.bits })
-cube_counted bs k h =
+    (bs : List ℕ) (k : Cube) (r : Counts) → OfBlock bs k → r.corners ≡ new_corners k.bits →
+    r.triangles ≡ length (cube (inside bs) (lowest_of k)) → r.triangles ≤ 12 → Counted bs (lowest_of k) (pt (suc k.x) k.y k.z) 1 r
+cube_counted bs k r h ec et few =
     let next = (in_order (inside bs) (size_x bs - 1) (size_y bs - 1)).next_cube k.x k.y k.z in
     record {
-      corners = ap (λ ts. length (corners_met ts)) next ∙ corners_more bs k h;
-      triangles =
-          ap length next ∙ length-append (earlier bs (lowest_of k)) (cube (inside bs) (lowest_of k))
-          ∙ ap (λ n. length (earlier bs (lowest_of k)) + n) (triangles_more bs k h);
+      corners = ap (λ ts. length (corners_met ts)) next ∙ corners_more bs k h ∙ ap (λ n. length (corners_met (earlier bs (lowest_of k))) + n) (sym ec);
+      triangles = ap length next ∙ length-append (earlier bs (lowest_of k)) (cube (inside bs) (lowest_of k)) ∙ ap (λ n. length (earlier bs (lowest_of k)) + n) (sym et);
       few_corners = omega (arith, few_new k.bits);
-      few_triangles = omega (arith, few_triangles k.bits);
+      few_triangles = omega arith;
     }
+
+pub plain_counted :
+    (bs : List ℕ) (k : Cube) → OfBlock bs k → plain k.bits ≡ true →
+    Counted bs (lowest_of k) (pt (suc k.x) k.y k.z) 1 (record { corners = 0; triangles = 0 })
+plain_counted bs k h e =
+    cube_counted bs k _ h (none_new (or_cases (eqb k.bits 0) (eqb k.bits 255) e)) (ap length (sym (plain_empty bs k h e))) (omega arith)
+  where
+    none_new : ((eqb k.bits 0 ≡ true) ⊎ (eqb k.bits 255 ≡ true)) → 0 ≡ new_corners k.bits
+    none_new (inl t) = sym (ap new_corners (eqb-true k.bits 0 t))
+    none_new (inr t) = sym (ap new_corners (eqb-true k.bits 255 t))
 
 pub counted_then :
     (bs : List ℕ) (p q s : Point) (m n : ℕ) (r t : Counts) → Counted bs p q m r → Counted bs q s n t →
@@ -300,24 +300,6 @@ counted_then bs p q s m n r t a b =
       few_corners = omega (arith, a.few_corners, b.few_corners);
       few_triangles = omega (arith, a.few_triangles, b.few_triangles);
     }
-
--- the cubes of a row up to one of them, none of whose points is inside
-pub none_counted :
-    (bs : List ℕ) (y z n : ℕ) → RowOf bs y z None → n ≤ size_x bs - 1 → Counted bs (pt 0 y z) (pt n y z) n (record { corners = 0; triangles = 0 })
-none_counted bs y z zero row l = record { corners = omega arith; triangles = omega arith; few_corners = omega arith; few_triangles = omega arith }
-none_counted bs y z (suc n) row l =
-    subst (λ m. Counted bs (pt 0 y z) (pt (suc n) y z) m (record { corners = 0; triangles = 0 })) (add-one n)
-    (counted_then bs _ (pt n y z) _ n 1 _ _ (none_counted bs y z n row (omega arith)) (cube_counted bs _ (row n (omega arith))))
-
--- one cube more of a row
-pub cube_more :
-    (bs : List ℕ) (x y z bits corners triangles : ℕ) (r : Counts) → Counted bs (pt 0 y z) (pt x y z) x r →
-    OfBlock bs (record { x = x; y = y; z = z; bits = bits }) → corners ≡ new_corners bits → triangles ≡ new_triangles bits →
-    Counted bs (pt 0 y z) (pt (x + 1) y z) (x + 1) (record { corners = r.corners + corners; triangles = r.triangles + triangles })
-cube_more bs x y z bits corners triangles r before h ec et =
-    subst (λ n. Counted bs (pt 0 y z) (pt n y z) (x + 1) (record { corners = r.corners + corners; triangles = r.triangles + triangles })) (sym (add-one x))
-    (subst₂ (λ a b. Counted bs (pt 0 y z) (pt (suc x) y z) (x + 1) (record { corners = r.corners + a; triangles = r.triangles + b })) (sym ec) (sym et)
-    (counted_then bs (pt 0 y z) (pt x y z) (pt (suc x) y z) x 1 r _ before (cube_counted bs _ h)))
 
 -- the end of a row is the start of the next
 pub row_counted : (bs : List ℕ) (y z : ℕ) (r : Counts) → size_x bs - 1 ≤ 95 → Counted bs (pt 0 y z) (pt (size_x bs - 1) y z) (size_x bs - 1) r → Counted bs (pt 0 y z) (pt 0 (suc y) z) 95 r

@@ -1,14 +1,10 @@
+pub mod Cubes
 pub mod Buffers
-pub mod Rows
 pub mod Slots
 pub mod Tables
-pub mod Cubes
-pub mod Computed
-pub mod Adding
 pub mod Growth
-pub mod Pieces
 pub mod Corners
-pub mod News
 pub mod Steps
+pub mod Pieces
 pub mod Counting
 pub mod Building

@@ -1,7 +1,4 @@
 pub mod Cubes
-pub mod Cases
-pub mod Adding
-pub mod Rows
 pub mod Slots
 pub mod Output
 pub mod Progress

@@ -5,14 +5,11 @@ ghost use Rattle.std.specs.Prelude.{◌≡◌, ◌*◌, Some, MatchResult};
 ghost use Rattle.block.specs.Scan.{bytes_in, size_x, size_y, size_z, refusal_of};
 ghost use Rattle.triangle.specs.Built.{Built, Needed, Refused};
 
-mod cases;
 mod count;
 mod cube;
-mod scan;
 mod write;
 
 use block::{Block, Refusal};
-use cases::all_cases;
 use count::count_block;
 use write::write_block;
 
@@ -35,8 +32,7 @@ pub fn build(
     ensures cases { MatchResult result (Built bytes.now corners.old triangles.old work.old corners.new triangles.new) (Refused bytes.now corners.old triangles.old work.old corners.new triangles.new work.new) }
 {
     let block = Block::read(bytes)?;
-    let cases = all_cases();
-    let counts = count_block(&cases, &block);
+    let counts = count_block(&block);
     if corners.len() / 3 < counts.corners as usize {
         return Err(Refusal::ShortBuffer(corners.len() / 3));
     }
@@ -46,7 +42,7 @@ pub fn build(
     if work.len() < 6 * points(&block) {
         return Err(Refusal::ShortBuffer(0));
     }
-    write_block(&cases, &block, corners, triangles, work);
+    write_block(&block, corners, triangles, work);
     Ok(counts)
 }
 
@@ -55,7 +51,7 @@ pub fn needed(bytes: &[u8]) -> Result<Counts, Refusal>
     ensures cases { MatchResult result (Needed bytes.now) (λ e. refusal_of bytes.now ≡ Some e) }
 {
     let block = Block::read(bytes)?;
-    Ok(count_block(&all_cases(), &block))
+    Ok(count_block(&block))
 }
 
 fn points(block: &Block) -> usize

@@ -1,26 +1,27 @@
 // Writes the corners and the triangles of a block, cube by cube, piece by piece, in the table's order.
-ghost use Rattle.std.specs.Prelude.{◌≡◌, suc, ◌+◌, ◌-◌, ◌*◌, ◌<◌, map, length, slice_set};
-ghost use Rattle.theory.specs.Grid.{pt};
+ghost use Rattle.std.specs.Prelude.{◌≡◌, suc, ◌+◌, ◌-◌, ◌*◌, ◌<◌, [], ◌∷◌, length, slice_index, slice_set};
+ghost use Rattle.theory.specs.Grid.{pt, highest, ◌⊕◌};
 ghost use Rattle.theory.specs.Triangle.{tri};
 ghost use Rattle.theory.specs.Places.{place};
+ghost use Rattle.theory_numbers.specs.Order.{upper};
 ghost use Rattle.block.specs.Scan.{bytes_in, size_x, size_y, size_z, Taken};
 ghost use Rattle.grid.specs.Numbers.{number_of};
+ghost use Rattle.piece.specs.Table.{triangles_in};
 ghost use Rattle.corner.specs.Fraction.{fraction_in};
-ghost use Rattle.triangle.specs.Cubes.{lowest_of, point_in, corner_at, OfBlock, Crosses};
-ghost use Rattle.triangle.specs.Cases.{new_steps, code_triangles, AllCases};
-ghost use Rattle.triangle.specs.Output.{put_triangle, with_triangle, with_triangles, with_place, with_corner_met, new_corner, met_by, NewIn, KnownIn, numbered_by};
-ghost use Rattle.triangle.specs.Progress.{Room, Goes, SkinWritten};
+ghost use Rattle.triangle.specs.Cubes.{lowest_of, point_in, corner_at, case_in, corner_in_piece, triangle_at, piece_triangles, OfBlock, OfPiece, Crosses, EndsOf};
+ghost use Rattle.triangle.specs.Slots.{step_of};
+ghost use Rattle.triangle.specs.Output.{put_triangle, with_triangle, with_place, with_corner_met, Meets};
+ghost use Rattle.triangle.specs.Progress.{Room, Adds, Goes, SkinWritten};
 
-use super::cases::{Case, corner_codes, first_met, new_steps, triangles_in};
-use super::cube::Cube;
-use super::scan::row_bits;
+use super::cube::{Cube, face};
 use block::Block;
 use corner::{CornerNumber, fraction, write_corner};
 use grid::{Grid, Point};
+use piece::{Pair, corner_of, point_of, triangle_count};
 
-// The buffers, and how many corners and triangles stand in them. A corner on an edge that ends at the highest point of a cube is first met
-// in that cube. Any other was met in an earlier one, and its number stands in `work` at its edge's slot; so nothing in `work` is
-// cleared or looked for.
+// The buffers, how many corners and triangles stand in them, and what is known of the cube at hand: the numbers of the corners on the
+// edges that end at its highest point, by the step that leads there. Such a corner is first met in this cube. Any other was met in an
+// earlier one, and its number stands in `work` at its edge's slot; so `work` is neither cleared nor searched.
 #[derive(Drop)]
 struct Out<'a> {
     corners: &'a mut [u32],
@@ -28,18 +29,12 @@ struct Out<'a> {
     work: &'a mut [u32],
     met: u32,
     made: u32,
+    top: [Option<u32>; 8],
 }
 
 // Writes the skin of a block, for which the buffers have room.
-pub fn write_block(
-    cases: &[Case; 256],
-    block: &Block,
-    corners: &mut [u32],
-    triangles: &mut [u32],
-    work: &mut [u32],
-)
-    requires taken { (Taken (bytes_in block)) × (Room (bytes_in block) (length corners.old) (length triangles.old) (length work.old)) }
-    requires all_cases { AllCases cases.now }
+pub fn write_block(block: &Block, corners: &mut [u32], triangles: &mut [u32], work: &mut [u32])
+    requires { (Taken (bytes_in block)) × (Room (bytes_in block) (length corners.old) (length triangles.old) (length work.old)) }
     ensures written { SkinWritten (bytes_in block.entry) corners.old triangles.old corners.new triangles.new }
 {
     let mut out = Out {
@@ -48,140 +43,146 @@ pub fn write_block(
         work,
         met: 0,
         made: 0,
+        top: [None; 8],
     };
-    let mut numbers = [0; 64];
-    write_layers(cases, block, &mut numbers, &mut out);
+    write_layers(block, &mut out);
 }
 
-// `numbers` has the numbers of a cube's corners by their codes, while that cube is written. What is left of earlier cubes is not looked at.
-fn write_layers(cases: &[Case; 256], block: &Block, numbers: &mut [u32; 64], out: &mut Out)
-    requires taken { Taken (bytes_in block) }
-    requires all_cases { AllCases cases.now }
+fn write_layers(block: &Block, out: &mut Out)
+    requires { Taken (bytes_in block) }
     ensures goes { Goes (bytes_in block.entry) (pt 0 0 0) (pt 0 0 (size_z (bytes_in block.entry) - 1)) out.old out.new }
 {
     for z in 0..block.size_z() - 1 {
-        write_layer(cases, block, z, numbers, out);
+        write_layer(block, z, out);
     }
 }
 
-fn write_layer(cases: &[Case; 256], block: &Block, z: u8, numbers: &mut [u32; 64], out: &mut Out)
-    requires taken { (Taken (bytes_in block)) × (suc z < size_z (bytes_in block)) }
-    requires all_cases { AllCases cases.now }
+fn write_layer(block: &Block, z: u8, out: &mut Out)
+    requires { (Taken (bytes_in block)) × (suc z < size_z (bytes_in block)) }
     ensures goes { Goes (bytes_in block.entry) (pt 0 0 z) (pt 0 0 (suc z)) out.old out.new }
 {
     for y in 0..block.size_y() - 1 {
-        write_row(cases, block, y, z, numbers, out);
+        write_row(block, y, z, out);
     }
 }
 
-fn write_row(
-    cases: &[Case; 256],
-    block: &Block,
-    y: u8,
-    z: u8,
-    numbers: &mut [u32; 64],
-    out: &mut Out,
-)
-    requires taken { (Taken (bytes_in block)) × ((suc y < size_y (bytes_in block)) × (suc z < size_z (bytes_in block))) }
-    requires all_cases { AllCases cases.now }
+fn write_row(block: &Block, y: u8, z: u8, out: &mut Out)
+    requires { (Taken (bytes_in block)) × ((suc y < size_y (bytes_in block)) × (suc z < size_z (bytes_in block))) }
     ensures goes { Goes (bytes_in block.entry) (pt 0 y z) (pt 0 (suc y) z) out.old out.new }
 {
-    let Some(bits) = row_bits(block, y, z) else {
-        return;
-    };
+    let mut near = face(block, 0, y, z);
     for x in 0..block.size_x() - 1 {
+        let far = face(block, x + 1, y, z);
         write_cube(
-            cases,
             block,
             Cube {
                 x,
                 y,
                 z,
-                bits: bits[x as usize],
+                bits: near / 2 + far,
             },
-            numbers,
             out,
         );
+        near = far;
     }
 }
 
-fn write_cube(
-    cases: &[Case; 256],
-    block: &Block,
-    cube: Cube,
-    numbers: &mut [u32; 64],
-    out: &mut Out,
-)
-    requires of_block { OfBlock (bytes_in block) cube }
-    requires all_cases { AllCases cases.now }
+fn write_cube(block: &Block, cube: Cube, out: &mut Out)
+    requires { OfBlock (bytes_in block) cube }
     ensures goes { Goes (bytes_in block.entry) (lowest_of cube) (pt (suc cube.x) cube.y cube.z) out.old out.new }
 {
     if cube.is_plain() {
         return;
     }
-    take_known(block, cube, out, numbers);
-    meet_new(cases, block, cube, numbers, out);
-    write_triangles(cases, cube.bits, numbers, out);
-}
-
-// The numbers that `work` keeps for the edges of a cube that end at another point than its highest: those that lead there from a point of
-// the cube, so along no axis along which the cube ends below.
-fn take_known(block: &Block, cube: Cube, out: &Out, numbers: &mut [u32; 64])
-    requires { OfBlock (bytes_in block) cube }
-    ensures known { KnownIn (bytes_in block.entry) cube out.now.work.now numbers.new }
-{
-    let work = &*out.work;
-    let row = 6 * block.size_x() as usize;
-    let layer = row * block.size_y() as usize;
-    let lowest = slot(block, cube, 0, 1);
-    for upper in 1..7usize {
-        let first = lowest + 6 * (upper % 2) + row * (upper / 2 % 2) + layer * (upper / 4);
-        if first + 6 <= work.len() {
-            for step in 1..7usize {
-                if upper & step == step {
-                    numbers[8 * upper + step] = work[first + step - 1];
-                }
-            }
-        }
+    out.top = [None; 8];
+    for piece in 0..6 {
+        write_piece(block, cube, piece, out);
     }
 }
 
-// Writes the corners that are first met in a cube, in the order in which its triangles meet them.
-fn meet_new(cases: &[Case; 256], block: &Block, cube: Cube, numbers: &mut [u32; 64], out: &mut Out)
-    requires of_block { OfBlock (bytes_in block) cube }
-    requires all_cases { AllCases cases.now }
-    ensures met { (out.new, numbers.new) ≡ met_by (bytes_in block.entry) cube (new_steps cube.bits) out.old numbers.old }
+fn write_piece(block: &Block, cube: Cube, piece: usize, out: &mut Out)
+    requires { (OfBlock (bytes_in block) cube) × (piece < 6) }
+    ensures adds { Adds (bytes_in block.entry) cube (piece_triangles cube piece) out.old out.new }
 {
-    let steps = new_steps(cases, cube.bits);
-    for i in 0..first_met(cases, cube.bits) as usize {
-        let step = steps[i];
-        numbers[56 + step as usize] = out.met;
-        meet(block, cube, step, out);
+    for number in 0..triangle_count(cube.case(piece)) {
+        write_triangle(block, cube, piece, number, out);
     }
 }
 
-// Writes the corner on the edge that leads by a step to the highest point of a cube, and keeps its number for later cubes. No other cube
-// has the long diagonal, whose step is 7.
-fn meet(block: &Block, cube: Cube, step: u8, out: &mut Out)
-    requires { NewIn (bytes_in block) cube step }
-    ensures after { out.new ≡ with_corner_met (bytes_in block.entry) out.old (new_corner cube step) }
+fn write_triangle(block: &Block, cube: Cube, piece: usize, number: usize, out: &mut Out)
+    requires { OfPiece (bytes_in block) cube piece number }
+    ensures adds { Adds (bytes_in block.entry) cube (triangle_at cube piece number ∷ []) out.old out.new }
+{
+    let a = corner_number(block, cube, piece, number, 0, out);
+    let b = corner_number(block, cube, piece, number, 1, out);
+    let c = corner_number(block, cube, piece, number, 2, out);
+    put_triangle(out, a, b, c);
+}
+
+// The number of a corner of a triangle, which is written if this is its first meeting.
+fn corner_number(
+    block: &Block,
+    cube: Cube,
+    piece: usize,
+    number: usize,
+    corner: usize,
+    out: &mut Out,
+) -> u32
+    requires { (OfPiece (bytes_in block) cube piece number) × (corner < 3) }
+    ensures meets { Meets (bytes_in block.entry) cube (corner_in_piece cube piece number corner) out.old out.new result }
+{
+    let ends = ends_of(cube, piece, number, corner);
+    let upper = ends.inside | ends.outside;
+    let step = ends.inside ^ ends.outside;
+    if upper < 7 {
+        return known_number(block, cube, upper, step, out);
+    }
+    let found = out.top[step as usize];
+    if let Some(number) = found {
+        return number;
+    }
+    meet(block, cube, ends.inside, ends.outside, step, out)
+}
+
+// The points of the cube between which a corner of a triangle lies.
+fn ends_of(cube: Cube, piece: usize, number: usize, corner: usize) -> Pair
+    requires { (piece < 6) × ((number < length (triangles_in (case_in cube.bits piece))) × (corner < 3)) }
+    ensures ends { EndsOf cube piece number corner result.inside result.outside }
+{
+    let names = corner_of(cube.case(piece), number, corner);
+    Pair {
+        inside: point_of(piece, names.inside as usize),
+        outside: point_of(piece, names.outside as usize),
+    }
+}
+
+// The number that `work` keeps for the edge that ends at this point of the cube.
+fn known_number(block: &Block, cube: Cube, upper: u8, step: u8, out: &mut Out) -> u32
+    requires { (OfBlock (bytes_in block) cube) × (0 < step) }
+    ensures value { result ≡ slice_index out.old.work.now (6 * number_of (size_x (bytes_in block.entry)) (size_y (bytes_in block.entry)) (point_in cube upper) + (step - 1)) }
+    ensures same { out.new ≡ out.old }
+{
+    let slot = slot(block, cube, upper, step);
+    if slot < out.work.len() {
+        out.work[slot]
+    } else {
+        0
+    }
+}
+
+// Writes a corner that is met for the first time, and keeps its number.
+fn meet(block: &Block, cube: Cube, inside: u8, outside: u8, step: u8, out: &mut Out) -> u32
+    requires { (Crosses (bytes_in block) cube inside outside) × ((upper (corner_at cube inside outside) ≡ lowest_of cube ⊕ highest) × ((step_of (corner_at cube inside outside) ≡ step) × ((0 < step) × (step < 8)))) }
+    ensures number { result ≡ out.old.met }
+    ensures after { out.new ≡ with_corner_met (bytes_in block.entry) out.old (corner_at cube inside outside) }
 {
     let number = out.met;
-    put_new(block, cube, step, out);
+    put_corner(block, cube, inside, outside, out);
+    out.top[step as usize] = Some(number);
     if step < 7 {
         keep(out.work, slot(block, cube, 7, step), number);
     }
-}
-
-fn put_new(block: &Block, cube: Cube, step: u8, out: &mut Out)
-    requires { NewIn (bytes_in block) cube step }
-    ensures after { out.new ≡ with_place out.old (place (fraction_in (bytes_in block.entry)) (new_corner cube step)) }
-{
-    if cube.bits < 128 {
-        put_corner(block, cube, 7 - step, 7, out);
-    } else {
-        put_corner(block, cube, 7, 7 - step, out);
-    }
+    number
 }
 
 // Writes the next corner. There is always room: the lengths were compared before.
@@ -201,20 +202,6 @@ fn put_corner(block: &Block, cube: Cube, inside: u8, outside: u8, out: &mut Out)
         write_corner(out.corners, CornerNumber(number), p, q, k);
     }
     out.met = number.wrapping_add(1);
-}
-
-// Writes the triangles of a cube, by the numbers of their corners.
-fn write_triangles(cases: &[Case; 256], bits: u8, numbers: &[u32; 64], out: &mut Out)
-    requires { AllCases cases.now }
-    ensures after { out.new ≡ with_triangles out.old (map (numbered_by numbers.now) (code_triangles bits)) }
-{
-    let codes = corner_codes(cases, bits);
-    for t in 0..triangles_in(cases, bits) as usize {
-        let a = numbers[codes[3 * t] as usize];
-        let b = numbers[codes[3 * t + 1] as usize];
-        let c = numbers[codes[3 * t + 2] as usize];
-        put_triangle(out, a, b, c);
-    }
 }
 
 // Writes the next triangle. There is always room.

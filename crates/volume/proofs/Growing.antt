@@ -14,8 +14,7 @@ use Rattle.theory_volume.specs.Sizes.{Small, most_triangles}
 use Rattle.theory_volume.proofs.Sizes.{six_volume_size}
 use Rattle.volume.specs.declared.Part.{Part}
 use Rattle.volume.specs.declared.Part.TheVariants.{Outer, Inner}
-use Rattle.theory_parts.specs.Buffer.{triangle_at, part_at, first_triangles, first_parts}
-use Rattle.volume.specs.Buffer.{place_in}
+use Rattle.volume.specs.Buffer.{place_in, triangle_at, part_at, first_triangles, first_parts}
 use Rattle.volume.specs.Measure.{part_of, count_of, volume_of, measured, all_measured, determinant_at}
 
 module _ {A : Type 0} (m : ℕ) where

@@ -3,8 +3,9 @@ use Rattle.std.proofs.Common.{◌≡◌, ℕ, zero, suc, ◌+◌, ◌%◌, ◌^�
 use Rattle.std.proofs.lemmas.List.{get_or_past}
 use Rattle.std.proofs.lemmas.Bool.{and_parts, and_from, and_left, and_right, cases_lt, leb-true, ltb-true}
 use Rattle.theory_volume.specs.Sizes.{most_coordinate, most_triangles}
-use Rattle.theory_parts.specs.Buffer.{count_in}
+use Rattle.volume.specs.Buffer.{part_at, triangle_count}
 use Rattle.volume.specs.Measure.{each_below, whole, low, determinant_at, cornered, fine, measurable, Low}
+use Rattle.volume.specs.Bounded.{bounded_at, bounded}
 
 pub each_below_at : (n : ℕ) (t : ℕ → Bool) → each_below n t ≡ true → (i : ℕ) → i < n → t i ≡ true
 each_below_at zero t e i l = absurd (omega arith)
@@ -32,24 +33,52 @@ low_all cs e i =
     ]
 
 -- what is known where a skin can be measured
-pub record Facts (cs ts : List ℕ) : Type 0 where
+pub record Facts (cs ts : List ℕ) (m : ℕ) : Type 0 where
   pub low_there : Low cs
-  pub few : count_in ts ≤ most_triangles
-  pub corners : (i : ℕ) → i < count_in ts → cornered cs ts i ≡ true
-  pub small : (i : ℕ) → i < count_in ts → nat_abs (determinant_at cs ts i) ≤ 2 ^ 34
+  pub few : triangle_count ts ≤ most_triangles
+  pub corners : (i : ℕ) → i < triangle_count ts → cornered cs ts i ≡ true
+  pub part_below : (i : ℕ) → i < triangle_count ts → part_at ts i < m
+  pub small : (i : ℕ) → i < triangle_count ts → nat_abs (determinant_at cs ts i) ≤ 2 ^ 34
 
-pub facts : (cs ts : List ℕ) → measurable cs ts ≡ true → Facts cs ts
+pub facts : (cs ts : List ℕ) (m : ℕ) → measurable cs ts m ≡ true → Facts cs ts m
 unfolding measurable
-facts cs ts e =
-    let p = and_parts (whole cs ts) (each_below (length cs) (low cs) && each_below (count_in ts) (fine cs ts)) e in
-    let q = and_parts (each_below (length cs) (low cs)) (each_below (count_in ts) (fine cs ts)) p.1 in
-    let w = and_parts (eqb (length cs % 3) 0) (eqb (length ts % 4) 0 && leb (count_in ts) most_triangles) p.0 in
+facts cs ts m e =
+    let p = and_parts (whole cs ts) (each_below (length cs) (low cs) && each_below (triangle_count ts) (fine cs ts m)) e in
+    let q = and_parts (each_below (length cs) (low cs)) (each_below (triangle_count ts) (fine cs ts m)) p.1 in
+    let w = and_parts (eqb (length cs % 3) 0) (eqb (length ts % 4) 0 && leb (triangle_count ts) most_triangles) p.0 in
     record {
       low_there = low_all cs q.0;
-      few = leb-true (count_in ts) most_triangles (and_parts (eqb (length ts % 4) 0) (leb (count_in ts) most_triangles) w.1).1;
-      corners = λ i l. (parts i (each_below_at (count_in ts) (fine cs ts) q.1 i l)).0;
-      small = λ i l. leb-true (nat_abs (determinant_at cs ts i)) (2 ^ 34) (parts i (each_below_at (count_in ts) (fine cs ts) q.1 i l)).1;
+      few = leb-true (triangle_count ts) most_triangles (and_parts (eqb (length ts % 4) 0) (leb (triangle_count ts) most_triangles) w.1).1;
+      corners = λ i l. (parts i (each_below_at (triangle_count ts) (fine cs ts m) q.1 i l)).0;
+      part_below = λ i l. (parts i (each_below_at (triangle_count ts) (fine cs ts m) q.1 i l)).1;
+      small = λ i l. (parts i (each_below_at (triangle_count ts) (fine cs ts m) q.1 i l)).2;
     }
   where
-    parts : (i : ℕ) → fine cs ts i ≡ true → (cornered cs ts i ≡ true) × (leb (nat_abs (determinant_at cs ts i)) (2 ^ 34) ≡ true)
+    parts : (i : ℕ) → fine cs ts m i ≡ true → (cornered cs ts i ≡ true) × (part_at ts i < m) × (nat_abs (determinant_at cs ts i) ≤ 2 ^ 34)
+    parts i e =
+        let p = and_parts (cornered cs ts i) (ltb (part_at ts i) m && leb (nat_abs (determinant_at cs ts i)) (2 ^ 34)) e in
+        let q = and_parts (ltb (part_at ts i) m) (leb (nat_abs (determinant_at cs ts i)) (2 ^ 34)) p.1 in
+        (p.0, ltb-true (part_at ts i) m q.0, leb-true (nat_abs (determinant_at cs ts i)) (2 ^ 34) q.1)
+
+-- what is known where a skin can be measured in as many parts as there is room for
+pub record Bounds (cs ts : List ℕ) : Type 0 where
+  pub low_there : Low cs
+  pub few : triangle_count ts ≤ most_triangles
+  pub corners : (i : ℕ) → i < triangle_count ts → cornered cs ts i ≡ true
+  pub small : (i : ℕ) → i < triangle_count ts → nat_abs (determinant_at cs ts i) ≤ 2 ^ 34
+
+pub bounds : (cs ts : List ℕ) → bounded cs ts ≡ true → Bounds cs ts
+unfolding bounded
+bounds cs ts e =
+    let p = and_parts (whole cs ts) (each_below (length cs) (low cs) && each_below (triangle_count ts) (bounded_at cs ts)) e in
+    let q = and_parts (each_below (length cs) (low cs)) (each_below (triangle_count ts) (bounded_at cs ts)) p.1 in
+    let w = and_parts (eqb (length cs % 3) 0) (eqb (length ts % 4) 0 && leb (triangle_count ts) most_triangles) p.0 in
+    record {
+      low_there = low_all cs q.0;
+      few = leb-true (triangle_count ts) most_triangles (and_parts (eqb (length ts % 4) 0) (leb (triangle_count ts) most_triangles) w.1).1;
+      corners = λ i l. (parts i (each_below_at (triangle_count ts) (bounded_at cs ts) q.1 i l)).0;
+      small = λ i l. leb-true (nat_abs (determinant_at cs ts i)) (2 ^ 34) (parts i (each_below_at (triangle_count ts) (bounded_at cs ts) q.1 i l)).1;
+    }
+  where
+    parts : (i : ℕ) → bounded_at cs ts i ≡ true → (cornered cs ts i ≡ true) × (leb (nat_abs (determinant_at cs ts i)) (2 ^ 34) ≡ true)
     parts i e = and_parts (cornered cs ts i) (leb (nat_abs (determinant_at cs ts i)) (2 ^ 34)) e

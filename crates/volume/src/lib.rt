@@ -5,9 +5,9 @@ ghost use Rattle.std.specs.Prelude.{◌≡◌, ◌+◌, ◌*◌, ◌^◌, ◌<�
 ghost use Rattle.theory.specs.Grid.{pt};
 ghost use Rattle.theory_volume.specs.Volume.{determinant};
 ghost use Rattle.theory_volume.specs.Sizes.{crossed, most_triangles};
-ghost use Rattle.theory_parts.specs.Buffer.{count_in};
-ghost use Rattle.volume.specs.Buffer.{place_in, corner_count};
+ghost use Rattle.volume.specs.Buffer.{place_in, corner_count, triangle_count};
 ghost use Rattle.volume.specs.Measure.{part_of, count_of, volume_of, all_measured, parts_of, each_below, whole, low, determinant_at, cornered, fine, measurable, Low};
+ghost use Rattle.volume.specs.Bounded.{bounded};
 
 // The largest coordinate of a skin, in 256ths of a grid step, the most triangles of one, and the largest determinant of one triangle.
 const MOST_COORDINATE: u32 = 24320;
@@ -24,25 +24,26 @@ pub enum Part {
     Inner { triangles: u32, six_volumes: i64 },
 }
 
-// Measures the parts of a skin: writes for each, as far as `parts` has room, how many triangles it has and the sum of their determinants,
-// which is six times the volume that it encloses. Answers false, and writes nothing, where these are no corners and triangles of a skin: a
-// corner or a triangle is not whole, a corner that a triangle names is not there, or something is larger than in any skin. Two passes, in
-// time linear in the number of corners and triangles.
+// Measures the parts of a skin: writes for each how many triangles it has and the sum of their determinants, which is six times the volume
+// that it encloses. Answers false, and writes nothing, where these are no corners and triangles of a skin in that many parts: a corner or a
+// triangle is not whole, a corner or a part that a triangle names is not there, or something is larger than in any skin. Two passes, in time
+// linear in the number of corners and triangles.
 pub fn measure(corners: &[u32], triangles: &[u32], parts: &mut [Part]) -> bool
-    ensures value { result ≡ measurable corners.now triangles.now }
+    ensures value { result ≡ measurable corners.now triangles.now (length parts.old) }
     ensures same { result ≡ false → parts.new ≡ parts.old }
     ensures written { result ≡ true → parts.new ≡ parts_of corners.now triangles.now (length parts.old) }
 {
-    if !measurable(corners, triangles) {
+    if !measurable(corners, triangles, parts.len()) {
         return false;
     }
-    measure_skin(corners, triangles, parts);
+    parts.fill(Part::new(0, 0));
+    add_up(corners, triangles, parts);
     true
 }
 
-// The same for corners and triangles that are known to be a skin's. One pass.
+// Measures the parts of a skin that is known, as far as `parts` has room. One pass.
 pub fn measure_skin(corners: &[u32], triangles: &[u32], parts: &mut [Part])
-    requires measurable { measurable corners.now triangles.now ≡ true }
+    requires bounded { bounded corners.now triangles.now ≡ true }
     ensures written { parts.new ≡ parts_of corners.now triangles.now (length parts.old) }
 {
     parts.fill(Part::new(0, 0));
@@ -89,23 +90,36 @@ impl Part {
     }
 }
 
-// Adds the triangle at a place of the order to its part, if `parts` has an entry for that.
-fn add_triangle(corners: &[u32], triangles: &[u32], i: usize, parts: &mut [Part])
-    requires measurable { measurable corners.now triangles.now ≡ true }
-    requires there { i < count_in triangles.now }
-    requires before { parts.old ≡ all_measured corners.now triangles.now i (length parts.old) }
-    ensures added { parts.new ≡ all_measured corners.now triangles.now (i + 1) (length parts.old) }
+// Adds each triangle to its part.
+fn add_up(corners: &[u32], triangles: &[u32], parts: &mut [Part])
+    requires measurable { measurable corners.now triangles.now (length parts.old) ≡ true }
+    requires empty { parts.old ≡ all_measured corners.now triangles.now 0 (length parts.old) }
+    ensures written { parts.new ≡ parts_of corners.now triangles.now (length parts.old) }
 {
-    let number = triangles[4 * i + 3] as usize;
-    if number < parts.len() {
+    for i in 0..triangles.len() / 4 {
+        let number = triangles[4 * i + 3] as usize;
         let part = parts[number];
         parts[number] = part.with(determinant_at(corners, triangles, i));
     }
 }
 
-// Whether these are the corners and triangles of a skin, as far as measuring goes.
-fn measurable(corners: &[u32], triangles: &[u32]) -> bool
-    ensures value { result ≡ measurable corners.now triangles.now }
+// Adds the triangle at a place of the order to its part, if `parts` has an entry for that.
+fn add_triangle(corners: &[u32], triangles: &[u32], i: usize, parts: &mut [Part])
+    requires bounded { bounded corners.now triangles.now ≡ true }
+    requires there { i < triangle_count triangles.now }
+    requires before { parts.old ≡ all_measured corners.now triangles.now i (length parts.old) }
+    ensures added { parts.new ≡ all_measured corners.now triangles.now (i + 1) (length parts.old) }
+{
+    let owner = triangles[4 * i + 3] as usize;
+    if owner < parts.len() {
+        let before = parts[owner];
+        parts[owner] = before.with(determinant_at(corners, triangles, i));
+    }
+}
+
+// Whether these are the corners and triangles of a skin in so many parts.
+fn measurable(corners: &[u32], triangles: &[u32], parts: usize) -> bool
+    ensures value { result ≡ measurable corners.now triangles.now parts }
 {
     if !whole(corners, triangles) {
         return false;
@@ -113,7 +127,7 @@ fn measurable(corners: &[u32], triangles: &[u32]) -> bool
     if !low(corners) {
         return false;
     }
-    all_fine(corners, triangles)
+    all_fine(corners, triangles, parts)
 }
 
 // One coordinate of the vector product of two rows.
@@ -160,7 +174,7 @@ fn corner_place(corners: &[u32], corner: u32) -> Place
 // The determinant of the triangle at a place of the order.
 fn determinant_at(corners: &[u32], triangles: &[u32], i: usize) -> i64
     requires low { Low corners.now }
-    requires there { i < count_in triangles.now }
+    requires there { i < triangle_count triangles.now }
     requires cornered { cornered corners.now triangles.now i ≡ true }
     ensures value { result ≡ determinant_at corners.now triangles.now i }
 {
@@ -191,7 +205,7 @@ fn low(corners: &[u32]) -> bool
 
 // Whether the numbers of a triangle's corners are in use.
 fn cornered(corners: &[u32], triangles: &[u32], i: usize) -> bool
-    requires { i < count_in triangles.now }
+    requires { i < triangle_count triangles.now }
     ensures value { result ≡ cornered corners.now triangles.now i }
 {
     let count = corners.len() / 3;
@@ -200,23 +214,24 @@ fn cornered(corners: &[u32], triangles: &[u32], i: usize) -> bool
         && (triangles[4 * i + 2] as usize) < count
 }
 
-// Whether a triangle can be measured: its corners are there, and its determinant is no larger than one of a skin.
-fn fine(corners: &[u32], triangles: &[u32], i: usize) -> bool
+// Whether a triangle can be measured: its corners and its part are there, and its determinant is no larger than one of a skin.
+fn fine(corners: &[u32], triangles: &[u32], parts: usize, i: usize) -> bool
     requires low { Low corners.now }
-    requires there { i < count_in triangles.now }
-    ensures value { result ≡ fine corners.now triangles.now i }
+    requires there { i < triangle_count triangles.now }
+    ensures value { result ≡ fine corners.now triangles.now parts i }
 {
     cornered(corners, triangles, i)
+        && (triangles[4 * i + 3] as usize) < parts
         && determinant_at(corners, triangles, i).unsigned_abs() <= LARGEST_DETERMINANT
 }
 
 // Whether all triangles can be measured.
-fn all_fine(corners: &[u32], triangles: &[u32]) -> bool
+fn all_fine(corners: &[u32], triangles: &[u32], parts: usize) -> bool
     requires { Low corners.now }
-    ensures value { result ≡ each_below (count_in triangles.now) (fine corners.now triangles.now) }
+    ensures value { result ≡ each_below (triangle_count triangles.now) (fine corners.now triangles.now parts) }
 {
     for i in 0..triangles.len() / 4 {
-        if !fine(corners, triangles, i) {
+        if !fine(corners, triangles, parts, i) {
             return false;
         }
     }

@@ -26,7 +26,8 @@ use Rattle.triangle.specs.declared.Counts.{Counts}
 use Rattle.part.specs.Links.{ByLinks, Written}
 use Rattle.part.proofs.Laws.{skins_numbered}
 use Rattle.volume.specs.Buffer.{place_in}
-use Rattle.volume.specs.Measure.{part_of, measured, parts_of, measurable}
+use Rattle.volume.specs.Measure.{part_of, measured, parts_of}
+use Rattle.volume.specs.Bounded.{bounded}
 use Rattle.volume.specs.declared.Part.{Part}
 use Rattle.volume.proofs.Growing.{measured_at}
 use Rattle.mesh.specs.Written.{skin_bytes}
@@ -35,7 +36,7 @@ use Rattle.whole.specs.Finished.{numbered_of, PartIs, Finished}
 use Rattle.whole.proofs.Skins.{range, closed, promised, sized}
 use Rattle.whole.proofs.Building.{placed, given, is_taken, length_placed, length_given, given_beyond, placed_lies, corners_lie, given_triangles}
 use Rattle.whole.proofs.Building.{sound_in}
-use Rattle.whole.proofs.Measuring.{coordinates_short, small_measurable}
+use Rattle.whole.proofs.Measuring.{coordinates_short, small_bounded}
 use Rattle.whole.proofs.Solids.{solid_part}
 use Rattle.whole.proofs.Accepting.{accepted}
 
@@ -59,10 +60,10 @@ module _
   coordinates_low : (c : ℕ) → c < counts.corners → CoordinatesTo most_coordinate (place_in (placed built) c)
   coordinates_low c l = (sized (is_taken built) _ (placed_lies built)).coordinates c (omega (arith, built.corner_count))
 
-  pub can_be_measured : measurable (placed built) ns ≡ true
+  pub can_be_measured : bounded (placed built) ns ≡ true
   can_be_measured =
       let size = sized (is_taken built) _ (placed_lies built) in
-      small_measurable (placed built) counts.corners (length_placed built) coordinates_low ns
+      small_bounded (placed built) counts.corners (length_placed built) coordinates_low ns
       (subst₂ (λ n ts. AllByRecursion (λ t. AllByRecursion (λ c. c < n) (corners_in t)) ts) (sym built.corner_count) (sym same_triangles)
       (promised (is_taken built) _ (placed_lies built)).in_range)
       (omega (arith, length_given built))

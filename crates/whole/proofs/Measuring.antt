@@ -7,7 +7,8 @@ use Rattle.theory.specs.Triangle.{Tri, corners}
 use Rattle.theory_parts.specs.Buffer.{count_in, triangles_in}
 use Rattle.theory_volume.specs.Sizes.{most_coordinate, most_triangles, CoordinatesTo, Small}
 use Rattle.volume.specs.Buffer.{place_in, corner_count}
-use Rattle.volume.specs.Measure.{each_below, whole, low, determinant_at, cornered, fine, measurable}
+use Rattle.volume.specs.Measure.{each_below, whole, low, determinant_at, cornered}
+use Rattle.volume.specs.Bounded.{bounded_at, bounded}
 use Rattle.whole.proofs.Front.{triangle_of_each}
 
 each_below_all : (n : ℕ) (t : ℕ → Bool) → ((i : ℕ) → i < n → t i ≡ true) → each_below n t ≡ true
@@ -41,13 +42,13 @@ module _ (cs : List ℕ) (n : ℕ) (long : length cs ≡ 3 * n) (coordinates : (
         and_from _ _ (lt-ltb _ _ (below _ here.0))
         (and_from _ _ (lt-ltb _ _ (below _ here.1.0)) (lt-ltb _ _ (below _ here.1.1.0)))
 
-    pub small_measurable :
-        length ns % 4 ≡ 0 → count_in ns ≤ most_triangles → AllByRecursion (Small (place_in cs)) (triangles_in ns) → measurable cs ns ≡ true
-    unfolding measurable
-    small_measurable triangles_whole few small =
+    pub small_bounded :
+        length ns % 4 ≡ 0 → count_in ns ≤ most_triangles → AllByRecursion (Small (place_in cs)) (triangles_in ns) → bounded cs ns ≡ true
+    unfolding bounded
+    small_bounded triangles_whole few small =
         and_from (whole cs ns) _
         (and_from _ _ (eq-eqb (length cs % 3) 0 (omega arith)) (and_from _ _ (eq-eqb _ 0 triangles_whole) (le-leb _ most_triangles few)))
         (and_from _ _ (each_below_all (length cs) (low cs) (λ i l. le-leb _ most_coordinate (low_at i l)))
-        (each_below_all (count_in ns) (fine cs ns)
+        (each_below_all (count_in ns) (bounded_at cs ns)
         (λ i l. and_from (cornered cs ns i) _ (cornered_at i l)
         (le-leb (nat_abs (determinant_at cs ns i)) (2 ^ 34) (triangle_of_each (Small (place_in cs)) ns small i l)))))

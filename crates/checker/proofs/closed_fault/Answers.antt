@@ -1,17 +1,17 @@
-use Rattle.std.proofs.Common.{refl}
+use Rattle.std.proofs.Common.{refl, arith}
 use Rattle.checker.specs.Verdict.Rule.{fault, passed}
-use Rattle.checker.proofs.Verdicts.{closed_matched, matched_closed}
+use Rattle.checker.proofs.Verdicts.{matched_closed}
 use Rattle.checker.proofs.closed_fault.Goals as goal
 
-pub returns-in_default : goal.returns-in_default
-returns-in_default c =
-    let closed = c.in_default.ensures.closed refl in
-    record { verdict = passed (closed_matched c.args.numbers.now closed) (passed (c.in_default.ensures.found closed) refl) }
+pub returns-in-Some : goal.returns-in-Some
+returns-in-Some c = record { verdict = fault c.in-Some.ensures.found }
 
-pub returns-in-Some-side_fault : goal.returns-in-Some-side_fault
-returns-in-Some-side_fault c = record { verdict = fault c.in-Some-side_fault.ensures.found }
+pub ring_fault-requires : goal.ring_fault-requires
+ring_fault-requires c =
+    record { ready = c.requires.ready; closed = matched_closed c.args.numbers.now c.in_default.ensures.found; room = (omega arith, omega arith) }
+
+pub returns-in-Some-ring_fault : goal.returns-in-Some-ring_fault
+returns-in-Some-ring_fault c = record { verdict = passed c.in_default.ensures.found (fault c.in-Some-ring_fault.ensures.found) }
 
 pub returns-in-None : goal.returns-in-None
-returns-in-None c =
-    let matched = c.in-None.ensures.found in
-    record { verdict = passed matched (fault (c.in-Some.ensures.found (matched_closed c.args.numbers.now matched))) }
+returns-in-None c = record { verdict = passed c.in_default.ensures.found (passed c.in-None.ensures.found refl) }

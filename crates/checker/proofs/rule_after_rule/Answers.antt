@@ -1,7 +1,7 @@
 use Rattle.std.proofs.Common.{◌≡◌, length, Some, None, sym, subst, subst₂, arith}
 use Rattle.block.specs.declared.refusal.Refusal.TheVariants.{BadTriangle, BadPart}
-use Rattle.mesh.specs.Bytes.{part_count, numbers_in}
-use Rattle.theory_parts.specs.Buffer.{triangle_at, count_in, triangles_in}
+use Rattle.mesh.specs.Bytes.{part_count, triangles_in as numbers_in}
+use Rattle.part.specs.Buffer.{triangle_at, count_in, triangles_in}
 use Rattle.checker.specs.Verdict.{Sound, RingedOnce, All, PartsVerdict, SideVerdict, TriangleVerdict}
 use Rattle.checker.specs.Verdict.Rule.{fault, passed}
 use Rattle.checker.proofs.Deciding.{closed_some, closed_none, parts_refused, parts_none}

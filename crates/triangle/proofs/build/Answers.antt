@@ -43,7 +43,7 @@ write_block-requires c =
     let read = c.in_ok-block.ensures.cases in
     let all = c.count_block-counts.ensures.counted in
     let enough = subst (λ n. 6 * n ≤ length c.args.work.now) c.points.ensures.value c.if-work-points.false in
-    record { taken = ready _ _ read _ all _ _ _ c.if-corners-counts.false c.if-triangles-counts.false enough; all_cases = c.all_cases-cases.ensures.all }
+    ready _ _ read _ all _ _ _ c.if-corners-counts.false c.if-triangles-counts.false enough
 
 pub returns : goal.returns
 returns c =

@@ -1,6 +1,6 @@
 -- Where the coordinates are low, the triangles are looked at. Assumes nothing.
 use Rattle.std.proofs.Common.{◌&&◌, length, sym, ap, ◌∙◌, ap₂}
-use Rattle.theory_parts.specs.Buffer.{count_in}
+use Rattle.volume.specs.Buffer.{triangle_count}
 use Rattle.volume.specs.Measure.{each_below, low, fine, measurable}
 use Rattle.volume.proofs.Tests.{low_all}
 use Rattle.volume.proofs.measurable.Goals as goal
@@ -14,7 +14,7 @@ returns-then-not-whole c =
     let cs = c.args.corners.now in
     let ts = c.args.triangles.now in
     record {
-      value = ap (λ b. b && (each_below (length cs) (low cs) && each_below (count_in ts) (fine cs ts)))
+      value = ap (λ b. b && (each_below (length cs) (low cs) && each_below (triangle_count ts) (fine cs ts c.args.parts)))
           c.if-not-whole.ensures.value;
     }
 
@@ -24,7 +24,7 @@ returns-then-not-low c =
     let cs = c.args.corners.now in
     let ts = c.args.triangles.now in
     record {
-      value = ap₂ (λ a b. a && (b && each_below (count_in ts) (fine cs ts)))
+      value = ap₂ (λ a b. a && (b && each_below (triangle_count ts) (fine cs ts c.args.parts)))
           c.if-not-whole.ensures.value c.if-not-low.ensures.value;
     }
 
@@ -36,5 +36,5 @@ returns c =
     record {
       value =
           c.all_fine.ensures.value
-          ∙ ap₂ (λ a b. a && (b && each_below (count_in ts) (fine cs ts))) c.if-not-whole.ensures.value c.if-not-low.ensures.value;
+          ∙ ap₂ (λ a b. a && (b && each_below (triangle_count ts) (fine cs ts c.args.parts))) c.if-not-whole.ensures.value c.if-not-low.ensures.value;
     }

@@ -13,7 +13,7 @@ pub measure_skin-requires : goal.measure_skin-requires
 measure_skin-requires c =
     simp sub-zero
     (record {
-      measurable =
+      bounded =
           can_be_measured c.in_ok-counts.ensures.cases (simp sub-zero at c.number_skin-count.ensures.written)
           (simp sub-zero at c.number_skin-count.auto.triangles);
     })

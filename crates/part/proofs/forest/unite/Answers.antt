@@ -1,22 +1,20 @@
--- A step of one way keeps what is to be put into one tree; where both have one parent, it is. Assumes nothing.
-use Rattle.std.proofs.Common.{arith}
-use Rattle.part.proofs.Connection.{alike_refl, alike_trans}
-use Rattle.part.proofs.Trees.{siblings_alike, joining_turned, joining_more}
+-- The greater of two roots is hung to the lesser. Assumes nothing.
+use Rattle.std.proofs.Common.{◌<◌, length, arith}
+use Rattle.part.proofs.Trees.{forest_set, united_first, united_second}
 use Rattle.part.proofs.forest.unite.Goals as goal
 
-pub loop-parents-init : goal.loop-parents-init
-loop-parents-init c = record { forest = c.requires.0; first = c.requires.1.0; second = c.requires.1.1; alike = alike_refl }
-
-pub loop-parents-preserved-then-parents-x : goal.loop-parents-preserved-then-parents-x
-loop-parents-preserved-then-parents-x c = joining_more c.loop-parents.invariant (omega arith)
-
-pub loop-parents-preserved : goal.loop-parents-preserved
-loop-parents-preserved c = joining_turned (joining_more (joining_turned c.loop-parents.invariant) (omega arith))
-
-pub returns : goal.returns
-returns c =
-    let j = c.loop-parents.invariant in
+pub returns-then-x-y : goal.returns-then-x-y
+returns-then-x-y c =
+    let l : c.root_of-y.result < length c.root_of-y.new.parents = omega (arith, c.root_of-y.ensures.way.down) in
     record {
-      forest = j.forest;
-      alike = alike_trans (siblings_alike _ _ _ j.first j.second c.loop-parents-test.false) j.alike;
+      forest = forest_set _ _ _ c.root_of-y.ensures.way.forest l (omega arith);
+      alike = united_second _ _ _ _ _ _ _ c.root_of-x.ensures.way c.root_of-y.ensures.way c.root_of-x.ensures.root c.root_of-y.ensures.root l;
+    }
+
+pub returns-else-x-y : goal.returns-else-x-y
+returns-else-x-y c =
+    let l : c.root_of-x.result < length c.root_of-y.new.parents = omega (arith, c.root_of-x.ensures.way.down) in
+    record {
+      forest = forest_set _ _ _ c.root_of-y.ensures.way.forest l (omega arith);
+      alike = united_first _ _ _ _ _ _ _ c.root_of-x.ensures.way c.root_of-y.ensures.way c.root_of-x.ensures.root c.root_of-y.ensures.root l;
     }

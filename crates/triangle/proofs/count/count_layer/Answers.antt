@@ -11,6 +11,6 @@ returns c =
     let all : c.loop-y.y ≡ size_y bs - 1 = omega arith in
     record {
       counted =
-          layer_counted bs c.args.z c.loop-y.counts (omega (arith, c.requires.taken.0.good.y_size))
+          layer_counted bs c.args.z c.loop-y.counts (omega (arith, c.requires.0.good.y_size))
           (subst (λ n. Counted bs (pt 0 0 c.args.z) (pt 0 n c.args.z) (95 * n) c.loop-y.counts) all c.loop-y.invariant);
     }

@@ -4,7 +4,7 @@ use Rattle.triangle.proofs.write.write_block.Goals as goal
 
 pub returns : goal.returns
 returns c =
-    let w = block_done c.args.block.now.bytes.now _ c.write_layers.new.out c.requires.taken.1 refl refl c.write_layers.ensures.goes in
+    let w = block_done c.args.block.now.bytes.now _ c.write_layers.new.out c.requires.1 refl refl c.write_layers.ensures.goes in
     record {
       written =
           record {

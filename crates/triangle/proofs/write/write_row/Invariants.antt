@@ -1,7 +1,12 @@
+use Rattle.std.proofs.Common.{◌≡◌}
 use Rattle.theory.specs.Grid.{pt}
+use Rattle.block.specs.Scan.{inside}
+use Rattle.triangle.specs.Cubes.{face_bits}
 use Rattle.triangle.specs.Progress.{Goes}
 use Rattle.triangle.proofs.write.write_row.Given as goal
 
--- the cubes before this one are written
+-- the cubes before this one are written, and the face between them is at hand
 abbrev pub invariant-loop-x : goal.invariant-loop-x
-invariant-loop-x l = Goes l.block.bytes.now (pt 0 l.y l.z) (pt l.x l.y l.z) l.initial.out l.out
+invariant-loop-x l =
+    (l.near ≡ face_bits (inside l.block.bytes.now) (pt l.x l.y l.z))
+    × Goes l.block.bytes.now (pt 0 l.y l.z) (pt l.x l.y l.z) l.initial.out l.out
