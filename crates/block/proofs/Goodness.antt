@@ -1,5 +1,5 @@
 -- A block is taken exactly if it is good, and whatever is inside a good block lies strictly within its border. Assumes nothing.
-use Rattle.std.proofs.Common.{◌≡◌, ℕ, zero, suc, ◌+◌, ◌-◌, ◌*◌, ◌<◌, ◌≤◌, Bool, true, false, cond, ◌&&◌, eqb, ltb, leb, ◌↔◌, List, [], ◌∷◌, length, get_or, Some, None, Option, sym, refl, ap, ◌∙◌, ⊎_elim, mul-le-mul_left, mul-suc, arith}
+use Rattle.std.proofs.Common.{◌≡◌, ℕ, zero, suc, ◌+◌, ◌-◌, ◌*◌, ◌<◌, ◌≤◌, Bool, true, false, cond, ◌&&◌, eqb, ltb, leb, ◌↔◌, List, [], ◌∷◌, length, Some, None, Option, sym, refl, ap, ◌∙◌, ⊎_elim, mul-le-mul_left, mul-suc, arith}
 use Rattle.std.proofs.lemmas.Bool.{and_parts, and_from, and_cases, and_left, and_right, or_parts, leb-true, leb-false, ltb-true, ltb-false, eqb-false, lt-leb, le-leb, le-ltb, lt-ltb, ne_eqb, cases_Bool, cases_lt, both_ways}
 use Rattle.theory.specs.Grid.{Point, pt, Border}
 use Rattle.theory.specs.Skin.{below}

@@ -1,13 +1,12 @@
 -- A triangle read from one of its corners: which sides it has there, and what is read. Assumes nothing.
-use Rattle.std.proofs.Common.{◌≡◌, ℕ, ◌+◌, ◌<◌, ◌≤◌, Bool, true, false, cond, ◌&&◌, ◌||◌, eqb, ◌⊎◌, List, [], ◌∷◌, sym, refl, ap, ◌∙◌, inl, inr, ⊎_elim, arith}
+use Rattle.std.proofs.Common.{◌≡◌, ℕ, ◌<◌, ◌≤◌, Bool, true, false, ◌&&◌, ◌||◌, eqb, ◌⊎◌, [], ◌∷◌, sym, refl, ap, ◌∙◌, inl, inr, ⊎_elim, arith}
 use Rattle.std.specs.List.{AllByRecursion}
-use Rattle.std.proofs.lemmas.Bool.{cases_Bool, cases_lt, cond_both, or_from, or_parts, or_left, or_right, or_cases, eqb-true, eq-eqb, ne_eqb, eqb-false, both_ways}
+use Rattle.std.proofs.lemmas.Bool.{cases_Bool, cases_lt, cond_both, or_from, or_parts, eqb-true, ne_eqb, eqb-false}
 use Rattle.theory.specs.Triangle.{Tri, tri, one_if, side, has, read_from, corners}
 use Rattle.theory.specs.Closed.{ThreeCorners}
 use Rattle.part.proofs.Places.{one_had}
 use Rattle.checker.specs.declared.Seen.{Seen}
 use Rattle.checker.specs.Passes.{seen_from}
-use Rattle.checker.specs.Verdict.{Sound}
 
 -- exactly one of three corners is c
 abbrev pub Which : ℕ → ℕ → ℕ → ℕ → Type 0

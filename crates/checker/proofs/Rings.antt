@@ -1,21 +1,21 @@
 -- The ring around a corner of a closed skin: its steps are followed in the buffer, and are one ring exactly if the way back is not early.
 -- Assumes nothing.
-use Rattle.std.proofs.Common.{◌≡◌, ℕ, zero, suc, ◌+◌, ◌*◌, ◌<◌, ◌≤◌, Bool, true, false, eqb, ◌⊎◌, List, [], ◌∷◌, length, get_or, set, sym, refl, ap, ◌∙◌, subst, inl, inr, ⊎_elim, zero-add, arith, length-set}
+use Rattle.std.proofs.Common.{◌≡◌, ℕ, zero, suc, ◌+◌, ◌<◌, ◌≤◌, eqb, ◌⊎◌, List, length, get_or, set, sym, refl, ap, ◌∙◌, subst, inl, inr, ⊎_elim, arith, length-set}
 use Rattle.std.specs.List.{AllByRecursion}
 use Rattle.std.proofs.lemmas.List.{get_or-set_same, get_or-set_other}
-use Rattle.std.proofs.lemmas.Bool.{cases_lt, cases_eq, cases_order, eqb-true, ne_eqb, eq-eqb}
+use Rattle.std.proofs.lemmas.Bool.{cases_lt, cases_eq, cases_order, ne_eqb, eq-eqb}
 use Rattle.theory.specs.Triangle.{Tri, sum_of, one_if, has, side, sides, with_corner, read_from, around, steps}
-use Rattle.theory.specs.Closed.{EachSideOnce, Ring}
+use Rattle.theory.specs.Closed.{EachSideOnce}
 use Rattle.theory.proofs.Sums.{sum_joined, sum_below_same, sum_ones, every_joined}
 use Rattle.theory_parts.proofs.Joining.{stands_sum}
 use Rattle.part.specs.Buffer.{triangle_at, count_in, triangles_in}
 use Rattle.part.proofs.Places.{stands_in}
 use Rattle.checker.specs.declared.Step.{Step}
 use Rattle.checker.specs.Verdict.{RingedOnce}
-use Rattle.checker.specs.Passes.{seen_from, Next, Ready, Stepped, before, Follows, Within, led, NoReturn, EarlyReturn}
+use Rattle.checker.specs.Passes.{seen_from, Next, Ready, Stepped, before, Follows, Within, NoReturn, EarlyReturn}
 use Rattle.checker.proofs.Reading.{At, at, no_side_out, no_side_in, no_read, has_most}
 use Rattle.checker.proofs.Linking.{next_before, before_all, before_most}
-use Rattle.checker.proofs.Cycles.{leaving, arriving, trail, back, walked, walk_apart, not_walked}
+use Rattle.checker.proofs.Cycles.{leaving, arriving, trail, walked, walk_apart, not_walked}
 use Rattle.checker.proofs.Verdicts.{every_counting}
 
 one_if_sym : (a b : ℕ) → one_if (eqb a b) ≡ one_if (eqb b a)

@@ -1,13 +1,13 @@
 -- The sides at a corner, counted along its chain: what one more triangle adds, what the counts say of it, and how they are cleared.
 -- Assumes nothing.
-use Rattle.std.proofs.Common.{◌≡◌, ℕ, zero, suc, ◌+◌, ◌*◌, ◌^◌, ◌<◌, ◌≤◌, Bool, true, false, eqb, ◌≢◌, ◌⊎◌, List, [], ◌∷◌, length, get_or, set, sym, refl, ap, ◌∙◌, subst, inl, inr, ⊎_elim, arith, length-set}
+use Rattle.std.proofs.Common.{◌≡◌, ℕ, suc, ◌+◌, ◌*◌, ◌<◌, ◌≤◌, Bool, true, false, eqb, List, [], ◌∷◌, length, get_or, set, sym, refl, ap, ◌∙◌, subst, ⊎_elim, arith, length-set}
 use Rattle.std.proofs.lemmas.List.{get_or-set_same, get_or-set_other}
-use Rattle.std.proofs.lemmas.Bool.{cases_lt, cases_eq, cases_order, cases_Bool, eqb-true, ne_eqb, eq-eqb}
-use Rattle.theory.specs.Triangle.{Tri, one_if, has, side, sides}
+use Rattle.std.proofs.lemmas.Bool.{cases_lt, cases_eq, cases_order, eqb-true, ne_eqb, eq-eqb}
+use Rattle.theory.specs.Triangle.{one_if, has, side, sides}
 use Rattle.part.specs.Buffer.{triangle_at, count_in, triangles_in}
-use Rattle.checker.specs.Verdict.{Sound, Matched, All}
+use Rattle.checker.specs.Verdict.{Matched, All}
 use Rattle.checker.specs.declared.Step.{Step}
-use Rattle.checker.specs.Passes.{seen_from, Next, Stepped, Chained, Ready, before, Clear, CountsOut, CountsIn, Counts, Fit, MatchedFrom, Narrowed}
+use Rattle.checker.specs.Passes.{seen_from, Next, Stepped, Ready, before, Clear, CountsOut, CountsIn, Counts, MatchedFrom}
 use Rattle.checker.proofs.Reading.{At, at, seen_below, corner_below, side_most, no_side_out, no_side_in}
 use Rattle.checker.proofs.Linking.{next_before, before_all, before_most, stop}
 

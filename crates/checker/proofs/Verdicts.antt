@@ -1,19 +1,19 @@
 -- There is at most one verdict on any bytes, and a skin is accepted exactly if it is good. Assumes nothing.
-use Rattle.std.proofs.Common.{◌≡◌, ℕ, zero, suc, ◌+◌, ◌<◌, eqb, ◌↔◌, List, [], ◌∷◌, ◌++◌, map, length, get_or, Some, None, Option, sym, refl, ap, ◌∙◌, subst, subst₂, inl, inr, ⊎_elim, zero-add, arith, length-append}
+use Rattle.std.proofs.Common.{◌≡◌, ℕ, zero, suc, ◌+◌, ◌<◌, eqb, List, [], ◌∷◌, ◌++◌, map, length, get_or, Some, None, Option, sym, refl, ap, ◌∙◌, subst, subst₂, ⊎_elim, zero-add, arith}
 use Rattle.std.specs.List.{range_with_len, AllByRecursion}
 use Rattle.std.proofs.lemmas.List.{ext_get_or, get_or_append_left, get_or_push}
 use Rattle.std.proofs.lemmas.Bool.{cases_order, cases_lt}
 use Rattle.block.specs.declared.refusal.Refusal.{Refusal}
 use Rattle.block.specs.declared.refusal.Refusal.TheVariants.{BadPart}
-use Rattle.theory.specs.Triangle.{Tri, tri, sum_of, side, sides}
+use Rattle.theory.specs.Triangle.{sum_of, side, sides}
 use Rattle.theory.specs.Closed.{EachSideOnce}
-use Rattle.theory_parts.specs.Parts.{Numbered, Stands}
+use Rattle.theory_parts.specs.Parts.{Numbered}
 use Rattle.theory_parts.proofs.Numbering.{only_numbering}
 use Rattle.theory_parts.proofs.Joining.{stands_sum}
 use Rattle.part.specs.Buffer.{triangle_at, part_at, count_in, triangles_in, parts_in}
 use Rattle.part.proofs.Places.{stands_in}
-use Rattle.mesh.specs.Bytes.{corner_count, part_count, length_fault, triangles_in as numbers_in}
-use Rattle.checker.specs.Verdict.{Sound, Matched, RingedOnce, Good, All, First, Rule, PartsVerdict, Verdict, Enough, Answer, OneVerdict, OneAnswer, AcceptedIfGood}
+use Rattle.mesh.specs.Bytes.{corner_count, part_count, triangles_in as numbers_in}
+use Rattle.checker.specs.Verdict.{Sound, Matched, Good, All, First, Rule, PartsVerdict, Verdict, Enough, Answer, OneVerdict, OneAnswer, AcceptedIfGood}
 use Rattle.checker.specs.Verdict.Rule.{fault, passed}
 use Rattle.checker.specs.Verdict.PartsVerdict.{by_first_triangle}
 use Rattle.checker.specs.Verdict.Verdict.{wrong_length, right_length}

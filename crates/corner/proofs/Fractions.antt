@@ -1,9 +1,9 @@
 -- A corner's fraction is 1 to 254: between two values with the threshold among them, and so on each edge of a block. Assumes nothing.
-use Rattle.std.proofs.Common.{◌≡◌, ℕ, suc, ◌+◌, ◌-◌, ◌*◌, ◌/◌, ◌<◌, ◌≤◌, Bool, true, false, ◌&&◌, ltb, leb, ◌⊎◌, List, sym, subst, inl, inr, div-lt_iff_lt-mul, arith}
+use Rattle.std.proofs.Common.{◌≡◌, ℕ, ◌+◌, ◌-◌, ◌*◌, ◌/◌, ◌<◌, ◌≤◌, Bool, true, false, leb, List, sym, subst, inl, inr, div-lt_iff_lt-mul, arith}
 use Rattle.std.proofs.lemmas.Bool.{and_parts, and_from, and_cases, both_ways, leb-true, leb-false, lt-ltb}
 use Rattle.theory.specs.Grid.{Point, pt, Offset, off, raised, ◌⊕◌, Amid}
 use Rattle.theory.specs.Closed.{Neighbours}
-use Rattle.block.specs.Scan.{size_x, size_y, size_z, threshold, value_of, within, inside, Taken}
+use Rattle.block.specs.Scan.{size_x, size_y, size_z, threshold, value_of, within, inside}
 use Rattle.corner.specs.Fraction.{fraction_of, FractionsInRange}
 
 pub fraction_bound : (u v t : ℕ) → v < t → t ≤ u → (1 ≤ fraction_of u v t) × (fraction_of u v t ≤ 254)

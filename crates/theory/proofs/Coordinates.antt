@@ -1,5 +1,5 @@
 -- A place's coordinates give back the step of the grid that it lies on. Assumes nothing.
-use Rattle.std.proofs.Common.{◌≡◌, ℕ, zero, suc, ◌+◌, ◌-◌, ◌*◌, ◌<◌, ◌≤◌, min, max, Bool, true, false, cond, ◌≢◌, ◌⊎◌, sym, refl, ap, ◌∙◌, subst, ap₂, inl, inr, add-mul, eq-or-lt_of_le, mul-le-mul_left, mul-suc, arith}
+use Rattle.std.proofs.Common.{◌≡◌, ℕ, zero, suc, ◌+◌, ◌-◌, ◌*◌, ◌≤◌, min, max, Bool, true, false, cond, ◌≢◌, ◌⊎◌, sym, refl, ap, ◌∙◌, ap₂, inl, inr, add-mul, eq-or-lt_of_le, mul-le-mul_left, mul-suc, arith}
 use native.Mathlib.Nat.{min-le_left, min-le_right, le-max_left, le-max_right}
 use Rattle.theory.specs.Grid.{Point, pt, Offset, off, lowest, raised, ◌⊕◌}
 use Rattle.theory.specs.Triangle.{edge}

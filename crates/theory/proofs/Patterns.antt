@@ -1,6 +1,6 @@
 -- A piece's triangles as closed data: over the offsets of its points they are the same wherever the cube stands, so one computed test
 -- over the six pieces and the sixteen patterns of who is inside speaks of every skin. Assumes nothing.
-use Rattle.std.proofs.Common.{◌≡◌, ℕ, suc, Bool, true, false, ◌&&◌, eqb, List, [], ◌∷◌, map, refl, ap₂, arith}
+use Rattle.std.proofs.Common.{◌≡◌, ℕ, suc, Bool, true, false, ◌&&◌, eqb, List, map, refl, ap₂, arith}
 use mathlib.Core.Bool.{beq}
 use Rattle.std.proofs.ByRecursion.{All-weaker}
 use Rattle.std.proofs.lemmas.Bool.{eq-eqb, ne_eqb}

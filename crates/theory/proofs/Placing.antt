@@ -1,5 +1,5 @@
 -- The corners of the skin by their places: they are the edges from inside to outside, and a place gives back its edge. Assumes nothing.
-use Rattle.std.proofs.Common.{◌≡◌, ℕ, ◌≤◌, Bool, true, false, ◌⊎◌, sym, refl, ap, ◌∙◌, subst, inl, inr, true≢false, arith}
+use Rattle.std.proofs.Common.{◌≡◌, ℕ, Bool, true, false, ◌⊎◌, sym, refl, ap, ◌∙◌, subst, inl, inr, true≢false, arith}
 use Rattle.theory.specs.Grid.{Point, Border}
 use Rattle.theory.specs.Triangle.{edge}
 use Rattle.theory.specs.Skin.{Corner}

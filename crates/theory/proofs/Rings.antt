@@ -5,7 +5,7 @@ use Rattle.std.specs.List.{flat_map, filter, AllByRecursion}
 use Rattle.std.proofs.lemmas.Bool.{and_parts, or_cases, both_ways, cond_both, false≢true}
 use Rattle.std.proofs.ByRecursion.{All-weaker}
 use Rattle.theory.specs.Grid.{Point, pt, same_point, Offset, off, lowest, raised, ◌⊕◌, pieces, Border}
-use Rattle.theory.specs.Triangle.{edge, sum_of, with_corner, read_from, around, walk}
+use Rattle.theory.specs.Triangle.{edge, sum_of, read_from, around, walk}
 use Rattle.theory.specs.Skin.{Corner, Triangle, same, cube, skin}
 use Rattle.theory.specs.Faces.{Name, n0, n1, n2, n3, over_cubes}
 use Rattle.theory.specs.Closed.{Neighbours, Parted}

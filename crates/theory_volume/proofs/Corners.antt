@@ -1,7 +1,7 @@
 -- What holds of each edge that the skin crosses holds of the corners in every piece. Assumes nothing.
-use Rattle.std.proofs.Common.{◌≡◌, ℕ, suc, ◌≤◌, Bool, true, false, List, [], ◌∷◌, ◌++◌, arith}
+use Rattle.std.proofs.Common.{◌≡◌, ℕ, suc, ◌≤◌, Bool, true, false, List, [], ◌∷◌, arith}
 use Rattle.std.proofs.ByRecursion.{All-weaker}
-use Rattle.std.specs.List.{flat_map, AllByRecursion}
+use Rattle.std.specs.List.{AllByRecursion}
 use Rattle.theory.specs.Grid.{Point, pt, pieces}
 use Rattle.theory.specs.Triangle.{edge, corners}
 use Rattle.theory.specs.Skin.{Corner, Triangle, in_piece, cube, below, skin}

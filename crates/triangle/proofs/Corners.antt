@@ -1,18 +1,18 @@
 -- The corner of a cube that the code has chosen is that of the definition, and its number is found in `work`, found in `top`, or new.
 -- Assumes nothing.
-use Rattle.std.proofs.Common.{◌≡◌, ℕ, suc, ◌+◌, ◌-◌, ◌*◌, ◌<◌, ◌≤◌, Bool, true, false, ◌≢◌, List, [], ◌∷◌, ◌++◌, length, get_or, Some, None, Option, sym, refl, ap, ◌∙◌, subst, subst₂, inl, inr, ⊎_elim, arith}
+use Rattle.std.proofs.Common.{◌≡◌, ℕ, suc, ◌+◌, ◌-◌, ◌*◌, ◌<◌, ◌≤◌, Bool, true, false, ◌≢◌, List, get_or, Some, None, sym, refl, ap, ◌∙◌, subst, subst₂, ⊎_elim, arith}
 use lib.Bits.{bit_or, bit_xor}
 use Rattle.std.proofs.lemmas.Bool.{true≢false}
 use Rattle.theory.specs.Grid.{Point, pt, Offset, off, highest, raised, ◌⊕◌}
-use Rattle.theory.specs.Triangle.{Edge, edge, Tri, has, times, with_corner}
+use Rattle.theory.specs.Triangle.{edge, has, times, with_corner}
 use Rattle.theory.specs.Skin.{Corner, same, cube}
 use Rattle.theory.proofs.Sums.{sum_skin}
 use Rattle.theory.proofs.Rings.{parted}
-use Rattle.theory_numbers.specs.Numbers.{index_of, meet}
+use Rattle.theory_numbers.specs.Numbers.{index_of}
 use Rattle.theory_numbers.specs.Order.{upper}
 use Rattle.theory_numbers.proofs.Cubes.{over_cubes_has}
 use Rattle.theory_numbers.proofs.Meeting.{as_they_are_met, meet_known, meet_new}
-use Rattle.block.specs.Scan.{size_x, size_y, size_z, inside, Taken}
+use Rattle.block.specs.Scan.{size_x, size_y, size_z, inside}
 use Rattle.grid.specs.Numbers.{number_of}
 use Rattle.piece.specs.Table.{bit, offset_at}
 use Rattle.triangle.specs.Cubes.{lowest_of, point_in, corner_at, corner_in_piece, OfBlock, Crosses, EndsOf}
@@ -20,7 +20,7 @@ use Rattle.triangle.specs.Slots.{step_of, slot}
 use Rattle.triangle.specs.Output.{with_corner_met, Crossing, Found, Knows, RoomForCorners, Meets}
 use Rattle.triangle.specs.declared.cube.Cube.{Cube}
 use Rattle.triangle.specs.declared.write.Out.{Out}
-use Rattle.triangle.proofs.Slots.{across, either_of, step_at, upper_at}
+use Rattle.triangle.proofs.Slots.{step_at, upper_at}
 use Rattle.triangle.proofs.Tables.{PairFacts, pair_facts, not_highest}
 use Rattle.triangle.proofs.Growth.{met_more}
 

@@ -1,12 +1,12 @@
 -- A cube adds one corner for each edge that ends at its highest point and crosses, and the triangles of its pieces. Assumes nothing.
-use Rattle.std.proofs.Common.{◌≡◌, ℕ, zero, suc, ◌+◌, ◌-◌, ◌*◌, ◌<◌, ◌≤◌, min, Bool, true, false, cond, not, eqb, ltb, leb, ◌≢◌, ◌⊎◌, List, [], ◌∷◌, ◌++◌, length, sym, refl, ap, ◌∙◌, subst, ap₂, subst₂, inl, inr, ⊎_elim, arith, length-append}
+use Rattle.std.proofs.Common.{◌≡◌, ℕ, suc, ◌+◌, ◌-◌, ◌*◌, ◌<◌, ◌≤◌, min, Bool, true, false, cond, not, eqb, ltb, leb, ◌≢◌, ◌⊎◌, List, [], ◌∷◌, ◌++◌, length, sym, refl, ap, ◌∙◌, subst, ap₂, subst₂, inl, inr, ⊎_elim, arith, length-append}
 use mathlib.Core.Bool.{beq}
 use lib.Count.{ones}
-use Rattle.std.proofs.lemmas.Bool.{or_cases, both_ways, cases_Bool, cases_lt, eqb-true, eq-eqb, ne_eqb, leb-true, lt-ltb, le-ltb, cond-true, cond-false}
+use Rattle.std.proofs.lemmas.Bool.{or_cases, both_ways, cases_Bool, cases_lt, eqb-true, eq-eqb, ne_eqb, leb-true}
 use Rattle.std.specs.List.{flat_map, AllByRecursion}
 use Rattle.theory.specs.Grid.{Point, pt, same_point, Offset, off, lowest, +x, +y, +z, +xy, +xz, +yz, highest, raised, ◌⊕◌}
 use Rattle.theory.specs.Triangle.{edge, one_if, sum_of, has, times, with_corner}
-use Rattle.theory.specs.Skin.{Corner, Triangle, same, cube, below}
+use Rattle.theory.specs.Skin.{Corner, same, cube}
 use Rattle.theory.proofs.Sums.{sum_append, sum_joined, every_append}
 use Rattle.theory.specs.Closed.{Neighbours}
 use Rattle.theory.proofs.Same.{same_point_true, same_point_refl, same_true, same_refl}
@@ -16,19 +16,19 @@ use Rattle.theory_numbers.proofs.Firsts.{length_le, same_from}
 use Rattle.theory_numbers.proofs.Numbered.{met_once, met_had}
 use Rattle.theory_numbers.proofs.Order.{in_order, first_met}
 use Rattle.theory_numbers.proofs.Crossed.{top_has}
-use Rattle.block.specs.Scan.{size_x, size_y, size_z, inside, Taken}
+use Rattle.block.specs.Scan.{size_x, size_y, size_z, inside}
 use Rattle.piece.specs.Table.{bit, offset_number, offset_at}
-use Rattle.triangle.specs.Cubes.{lowest_of, plain, piece_triangles, OfBlock}
+use Rattle.triangle.specs.Cubes.{lowest_of, plain, OfBlock}
 use Rattle.triangle.specs.Slots.{step_of}
 use Rattle.triangle.specs.Output.{Crossing}
 use Rattle.triangle.specs.Progress.{earlier}
 use Rattle.triangle.specs.Counting.{new_corners, Counted}
 use Rattle.triangle.specs.declared.Counts.{Counts}
 use Rattle.triangle.specs.declared.cube.Cube.{Cube}
-use Rattle.triangle.proofs.Slots.{across, either_of, step_at, upper_at, directed, Rise, rise_of, upper_rise}
-use Rattle.triangle.proofs.Tables.{all_below, at_below}
+use Rattle.triangle.proofs.Slots.{across, either_of, step_at, upper_at, directed, rise_of, upper_rise}
+use Rattle.triangle.proofs.Tables.{at_below}
 use Rattle.triangle.proofs.Corners.{cube_crosses}
-use Rattle.triangle.proofs.Pieces.{cube_is, plain_empty}
+use Rattle.triangle.proofs.Pieces.{plain_empty}
 
 -- by who of eight points is inside, as the code counts
 pub counted_bits : (b : ℕ) → b < 256 → cond (ltb b 128) (ones b) (8 - ones b) ≡ new_corners b

@@ -1,8 +1,8 @@
 -- The points of a cube lie in its block, and at the ends of an edge that crosses the values lie on both sides of the threshold.
 -- Assumes nothing.
-use Rattle.std.proofs.Common.{◌≡◌, ℕ, suc, ◌<◌, ◌≤◌, Bool, true, false, ◌&&◌, ltb, leb, List, sym, ap, ◌∙◌, inl, inr, arith}
+use Rattle.std.proofs.Common.{◌≡◌, ℕ, suc, ◌<◌, ◌≤◌, Bool, true, false, leb, List, inl, inr, arith}
 use Rattle.std.proofs.lemmas.Bool.{and_parts, and_from, and_cases, both_ways, leb-true, leb-false, lt-ltb}
-use Rattle.theory.specs.Grid.{Point, pt, raised}
+use Rattle.theory.specs.Grid.{raised}
 use Rattle.block.specs.Scan.{size_x, size_y, size_z, threshold, value_of, within, inside}
 use Rattle.piece.specs.Table.{bit}
 use Rattle.triangle.specs.Cubes.{point_in, OfBlock, Crosses}

@@ -1,21 +1,21 @@
 -- What the buffers hold after a corner is met for the first time, and after a triangle is made. Assumes nothing.
-use Rattle.std.proofs.Common.{◌≡◌, ℕ, suc, ◌+◌, ◌*◌, ◌%◌, ◌^◌, ◌<◌, ◌≤◌, Bool, true, false, cond, ltb, leb, ◌≢◌, List, [], ◌∷◌, ◌++◌, map, length, get_or, take, drop, set, Some, None, Option, sym, refl, ap, ◌∙◌, subst, ap₂, inl, inr, arith, length-append, length-set}
+use Rattle.std.proofs.Common.{◌≡◌, ℕ, ◌+◌, ◌*◌, ◌^◌, ◌<◌, ◌≤◌, true, false, cond, ltb, leb, ◌≢◌, List, [], ◌∷◌, ◌++◌, map, length, get_or, take, drop, set, Some, None, Option, sym, refl, ap, ◌∙◌, subst, ap₂, inl, inr, arith, length-append, length-set}
 use Rattle.std.proofs.lemmas.List.{get_or-set_same, get_or-set_other, map_push, length-map}
-use Rattle.std.proofs.lemmas.Bool.{both_ways, cases_Bool, cases_lt, cond-true, cond_both, le-leb, lt-ltb, ltb-true, true≢false}
+use Rattle.std.proofs.lemmas.Bool.{both_ways, cases_Bool, cond-true, cond_both, le-leb, lt-ltb, ltb-true}
 use Rattle.theory.specs.Grid.{Point, pt, highest, ◌⊕◌}
 use Rattle.theory.specs.Triangle.{Tri, tri, one_if, times, with_corner}
 use Rattle.theory.specs.Skin.{Corner, same, cube}
 use Rattle.theory.specs.Places.{Place, place}
 use Rattle.theory.proofs.Sums.{sum_append}
 use Rattle.theory.proofs.Same.{same_true, same_refl}
-use Rattle.theory_numbers.specs.Numbers.{index_of, meet}
+use Rattle.theory_numbers.specs.Numbers.{index_of}
 use Rattle.theory_numbers.specs.Order.{upper}
-use Rattle.theory_numbers.proofs.Meeting.{as_they_are_met, index_append, meet_known, meet_new}
+use Rattle.theory_numbers.proofs.Meeting.{as_they_are_met, index_append, meet_new}
 use Rattle.block.specs.Scan.{size_x, size_y, size_z, inside, Taken}
 use Rattle.corner.specs.Fraction.{fraction_in}
 use Rattle.corner.specs.Buffer.{coordinates, filled}
 use Rattle.triangle.specs.Slots.{step_of, slot}
-use Rattle.triangle.specs.Output.{quad, put_triangle, with_triangle, with_corner_met, Crossing, Holds, Found, Knows, RoomForCorners}
+use Rattle.triangle.specs.Output.{quad, with_triangle, with_corner_met, Crossing, Found, Knows, RoomForCorners}
 use Rattle.triangle.specs.declared.write.Out.{Out}
 use Rattle.triangle.proofs.Buffers.{begun_more, length_begun}
 use Rattle.triangle.proofs.Slots.{step_apart, slot_apart, slot_below}

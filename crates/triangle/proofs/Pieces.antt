@@ -1,17 +1,17 @@
 -- The triangles that the table gives for the pieces of a cube, one after the other, are those of the cube; a plain cube has none; and the
 -- bits of two faces are those of the cube between them. Assumes nothing.
-use Rattle.std.proofs.Common.{◌≡◌, ℕ, zero, suc, ◌+◌, ◌*◌, ◌/◌, ◌%◌, ◌<◌, ◌≤◌, Bool, true, false, ◌||◌, eqb, List, [], ◌∷◌, ◌++◌, map, length, get_or, take, Some, sym, refl, ap, ◌∙◌, ap₂, inl, inr, append_assoc, append-nil, add-one, arith}
+use Rattle.std.proofs.Common.{◌≡◌, ℕ, zero, suc, ◌+◌, ◌/◌, ◌%◌, ◌<◌, ◌≤◌, Bool, true, false, eqb, List, [], ◌∷◌, ◌++◌, map, length, get_or, take, Some, refl, ap, ◌∙◌, ap₂, inl, inr, append_assoc, append-nil, add-one, arith}
 use Rattle.std.proofs.lemmas.List.{take_more, get_or-map, length-map}
 use Rattle.std.proofs.lemmas.Bool.{eqb-true, or_cases}
-use Rattle.std.specs.List.{flat_map, slice_get}
+use Rattle.std.specs.List.{slice_get}
 use Rattle.theory.specs.Grid.{Point, pt, Piece, pieces, ◌⊕◌}
 use Rattle.theory.specs.Triangle.{Edge, edge, Tri, tri, one_if, corners}
 use Rattle.theory.specs.Skin.{Triangle, in_piece, cube, below}
 use Rattle.theory.specs.Faces.{renamed}
 use Rattle.block.specs.Scan.{size_x, size_y, size_z, inside, Taken}
-use Rattle.piece.specs.Table.{bit, point_of, corner_point, offset_at, triangles_in, corner_of, unused, no_triangle}
+use Rattle.piece.specs.Table.{bit, point_of, corner_point, offset_at, triangles_in, unused, no_triangle}
 use Rattle.piece.proofs.Table.{cut_by_table}
-use Rattle.triangle.specs.Cubes.{lowest_of, point_in, case_in, plain, face_bits, on_points, triangle_at, piece_triangles, OfBlock}
+use Rattle.triangle.specs.Cubes.{lowest_of, case_in, plain, face_bits, on_points, triangle_at, piece_triangles, OfBlock}
 use Rattle.triangle.specs.declared.cube.Cube.{Cube}
 use Rattle.triangle.proofs.Tables.{at_most_two, case_below, case_bit, point_below, bit_is}
 

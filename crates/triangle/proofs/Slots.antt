@@ -1,9 +1,9 @@
 -- A corner is known by the upper end of its edge and the step that leads there, so different corners have different slots, all of them in
 -- `work`. Assumes nothing.
-use Rattle.std.proofs.Common.{◌≡◌, ℕ, suc, ◌+◌, ◌-◌, ◌*◌, ◌<◌, ◌≤◌, max, Bool, true, false, not, ◌||◌, eqb, ◌≢◌, ◌⊎◌, List, sym, refl, ap, ◌∙◌, subst, inl, inr, arith}
+use Rattle.std.proofs.Common.{◌≡◌, ℕ, suc, ◌+◌, ◌-◌, ◌*◌, ◌<◌, max, Bool, true, false, not, ◌||◌, ◌≢◌, ◌⊎◌, List, sym, refl, ap, ◌∙◌, subst, inl, inr, arith}
 use mathlib.Core.Bool.{beq}
 use Rattle.std.proofs.lemmas.Bool.{eq-eqb, ne_eqb}
-use Rattle.theory.specs.Grid.{Point, pt, Offset, off, lowest, raised, ◌⊕◌, Amid, Border}
+use Rattle.theory.specs.Grid.{Point, pt, Offset, off, lowest, raised, ◌⊕◌, Amid}
 use Rattle.theory.specs.Triangle.{edge, one_if}
 use Rattle.theory.specs.Skin.{Corner}
 use Rattle.theory_numbers.specs.Order.{upper}

@@ -1,25 +1,24 @@
 -- The skin grows triangle by triangle, piece by piece and cube by cube; whatever was written is the front of the skin, so that the room
 -- that was compared suffices. Assumes nothing.
-use Rattle.std.proofs.Common.{◌≡◌, ℕ, zero, suc, ◌+◌, ◌-◌, ◌*◌, ◌^◌, ◌<◌, ◌≤◌, Bool, true, false, ◌||◌, ◌≢◌, List, [], ◌∷◌, ◌++◌, map, length, get_or, replicate, Some, None, Option, sym, refl, ap, ◌∙◌, subst, ap₂, subst₂, inl, inr, ⊎_elim, append_assoc, append-nil, arith, length-append}
+use Rattle.std.proofs.Common.{◌≡◌, ℕ, zero, suc, ◌+◌, ◌-◌, ◌*◌, ◌^◌, ◌<◌, ◌≤◌, Bool, true, false, ◌||◌, List, [], ◌∷◌, ◌++◌, map, length, get_or, replicate, None, Option, sym, refl, ap, ◌∙◌, subst, ap₂, subst₂, inl, inr, ⊎_elim, append_assoc, append-nil, arith, length-append}
 use lib.ListN.{get_or-replicate}
 use Rattle.std.proofs.lemmas.List.{map-append, length-map, get_or_past}
 use Rattle.std.proofs.lemmas.Bool.{cases_lt}
-use Rattle.std.specs.List.{flat_map}
-use Rattle.theory.specs.Grid.{Point, pt, highest, ◌⊕◌}
-use Rattle.theory.specs.Triangle.{Tri, tri, corners, has, one_if, times, with_corner}
-use Rattle.theory.specs.Skin.{Corner, Triangle, same, cube, skin}
+use Rattle.theory.specs.Grid.{Point, pt}
+use Rattle.theory.specs.Triangle.{tri, corners, has, one_if, times, with_corner}
+use Rattle.theory.specs.Skin.{Corner, Triangle, same, cube}
 use Rattle.theory.proofs.Sums.{sum_append}
 use Rattle.theory.proofs.Same.{same_refl}
-use Rattle.theory_numbers.specs.Numbers.{index_of, renumber, meet, meet_all, corners_met}
-use Rattle.theory_numbers.specs.Order.{before, upper, FirstMet}
+use Rattle.theory_numbers.specs.Numbers.{renumber, meet, corners_met}
+use Rattle.theory_numbers.specs.Order.{FirstMet}
 use Rattle.theory_numbers.proofs.Order.{in_order, first_met}
 use Rattle.theory_numbers.proofs.Numbered.{met_had}
 use Rattle.theory_numbers.proofs.Meeting.{as_they_are_met, meet_all_grows}
-use Rattle.block.specs.Scan.{size_x, size_y, size_z, inside, Taken}
-use Rattle.triangle.specs.Cubes.{lowest_of, corner_in_piece, triangle_at, OfBlock}
+use Rattle.block.specs.Scan.{size_x, size_y, size_z, inside}
+use Rattle.triangle.specs.Cubes.{lowest_of, OfBlock}
 use Rattle.triangle.specs.Slots.{step_of}
 use Rattle.triangle.specs.Output.{with_triangle, with_empty_top, Found, Knows, Holds, Meets}
-use Rattle.triangle.specs.Progress.{skin_of, corners_of, earlier, Room, RoomIn, Written, Begun, Adds, Goes}
+use Rattle.triangle.specs.Progress.{skin_of, earlier, RoomIn, Written, Begun, Adds, Goes}
 use Rattle.triangle.specs.declared.cube.Cube.{Cube}
 use Rattle.triangle.specs.declared.write.Out.{Out}
 use Rattle.triangle.proofs.Growth.{made_more}

@@ -1,15 +1,15 @@
 -- What the buffers hold while a skin is written: the corners met so far, the triangles made so far, and in `work` the numbers of the
 -- corners that a later cube may meet again. Assumes nothing: these are definitions.
-use Rattle.std.specs.Prelude.{◌≡◌, ℕ, ◌+◌, ◌-◌, ◌*◌, ◌%◌, ◌^◌, ◌<◌, ◌≤◌, true, false, cond, ◌≢◌, List, [], ◌∷◌, ◌++◌, map, length, take, drop, replicate, Some, None, Option, nat_le, nat_lt, slice_index, slice_index_or, slice_set}
+use Rattle.std.specs.Prelude.{◌≡◌, ℕ, ◌+◌, ◌*◌, ◌%◌, ◌^◌, ◌<◌, ◌≤◌, true, false, cond, ◌≢◌, List, [], ◌∷◌, ◌++◌, map, length, take, drop, replicate, Some, None, Option, nat_le, nat_lt, slice_index, slice_index_or, slice_set}
 use denote.Ref.{at_last}
 use Rattle.std.specs.List.{flat_map}
 use Rattle.theory.specs.Grid.{Point, highest, ◌⊕◌}
 use Rattle.theory.specs.Triangle.{edge, Tri, tri, times, with_corner}
-use Rattle.theory.specs.Skin.{Corner, Triangle, same, cube, skin}
+use Rattle.theory.specs.Skin.{Corner, same, cube}
 use Rattle.theory.specs.Closed.{Neighbours}
 use Rattle.theory.specs.Places.{Place, place}
-use Rattle.theory_numbers.specs.Numbers.{index_of, renumber, meet, corners_met, corner_list}
-use Rattle.theory_numbers.specs.Order.{before, upper}
+use Rattle.theory_numbers.specs.Numbers.{index_of, meet}
+use Rattle.theory_numbers.specs.Order.{upper}
 use Rattle.block.specs.Scan.{size_x, size_y, size_z, inside}
 use Rattle.corner.specs.Fraction.{fraction_in}
 use Rattle.corner.specs.Buffer.{put_corner, filled}

@@ -1,4 +1,4 @@
-use Rattle.std.proofs.Common.{◌≡◌, length, Some, None, sym, subst, arith}
+use Rattle.std.proofs.Common.{length, Some, None, subst, arith}
 use Rattle.std.proofs.lemmas.Result.{err_from_is_err_and}
 use Rattle.checker.specs.Verdict.{RulesVerdict, Enough, Answer}
 use Rattle.checker.specs.Verdict.Verdict.{right_length}

@@ -1,4 +1,4 @@
-use Rattle.std.proofs.Common.{◌≡◌, ℕ, ◌+◌, ◌*◌, length, sym, ◌∙◌, arith}
+use Rattle.std.proofs.Common.{◌+◌, ◌*◌, arith}
 use Rattle.std.proofs.lemmas.List.{ext_get_or}
 use Rattle.mesh.specs.Bytes.{number_at, triangle_count, triangles_from, triangles_in}
 use Rattle.mesh.proofs.Numbers.{length_listed}

@@ -1,4 +1,4 @@
-use Rattle.std.proofs.Common.{◌≡◌, ℕ, ◌+◌, ◌*◌, length, sym, ◌∙◌, ⊎_elim, arith, below_more}
+use Rattle.std.proofs.Common.{◌≡◌, ℕ, ◌+◌, ◌*◌, length, sym, ◌∙◌, arith, below_more}
 use Rattle.mesh.specs.Bytes.{number_at, triangle_count, part_count, triangles_from, triangles_in}
 use Rattle.mesh.proofs.Numbers.{length_listed}
 use Rattle.checker.proofs.Compared.{same_at, same_last}

@@ -1,5 +1,5 @@
-use Rattle.std.proofs.Common.{ℕ, suc, ◌+◌, ◌-◌, ◌*◌, sym, subst, subst₂, arith}
-use Rattle.part.specs.Buffer.{triangle_at, count_in}
+use Rattle.std.proofs.Common.{◌-◌, sym, subst, subst₂, arith}
+use Rattle.part.specs.Buffer.{triangle_at}
 use Rattle.checker.specs.Verdict.{Sound}
 use Rattle.checker.specs.Passes.{Chained}
 use Rattle.checker.proofs.Linking.{chained_before}

@@ -1,4 +1,3 @@
-use Rattle.std.proofs.Common.{length}
 use Rattle.part.specs.Buffer.{triangle_at}
 use Rattle.checker.specs.Verdict.{Sound, All}
 use Rattle.checker.proofs.triangle_fault.Given as goal

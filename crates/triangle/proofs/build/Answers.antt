@@ -1,4 +1,4 @@
-use Rattle.std.proofs.Common.{◌≡◌, ◌*◌, ◌<◌, ◌≤◌, length, refl, subst, arith}
+use Rattle.std.proofs.Common.{◌*◌, ◌<◌, ◌≤◌, length, refl, subst}
 use Rattle.triangle.specs.Progress.{SkinWritten}
 use Rattle.triangle.proofs.Building.{corner_count, triangle_count, few, short_corners, short_triangles, short_work, long_enough, ready}
 use Rattle.triangle.proofs.build.Goals as goal

@@ -1,4 +1,4 @@
-use Rattle.std.proofs.Common.{sym, rules}
+use Rattle.std.proofs.Common.{rules}
 use Rattle.block.specs.Scan.{inside}
 use Rattle.block.proofs.Block.inside.Goals as goal
 

@@ -1,4 +1,4 @@
-use Rattle.std.proofs.Common.{◌≡◌, ℕ, ◌+◌, ◌*◌, [], ◌∷◌, sym, refl, ap, ◌∙◌, arith}
+use Rattle.std.proofs.Common.{◌≡◌, ◌+◌, [], ◌∷◌, sym, refl, ap, ◌∙◌, arith}
 use Rattle.theory.specs.Grid.{pt}
 use Rattle.theory.specs.Skin.{below}
 use Rattle.block.specs.Scan.{size_x, byte_of, faults}

@@ -1,4 +1,4 @@
-use Rattle.std.proofs.Common.{◌≡◌, ℕ, ◌+◌, ◌*◌, sym, refl, ap, ◌∙◌, arith}
+use Rattle.std.proofs.Common.{◌≡◌, ◌*◌, sym, refl, ap, ◌∙◌, arith}
 use Rattle.theory.specs.Grid.{pt}
 use Rattle.theory.specs.Skin.{below}
 use Rattle.block.specs.Scan.{size_x, size_y, size_z, byte_of, layer, faults}

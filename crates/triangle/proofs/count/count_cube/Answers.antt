@@ -1,4 +1,4 @@
-use Rattle.std.proofs.Common.{◌≡◌, length, sym, refl, ap, ◌∙◌, arith}
+use Rattle.std.proofs.Common.{length, sym, ap, ◌∙◌}
 use Rattle.triangle.proofs.Counting.{cube_counted, plain_counted}
 use Rattle.triangle.proofs.Pieces.{cube_is}
 use Rattle.triangle.proofs.count.count_cube.Goals as goal

@@ -1,4 +1,4 @@
-use Rattle.std.proofs.Common.{◌≡◌, ◌-◌, ◌*◌, ◌≤◌, subst, arith}
+use Rattle.std.proofs.Common.{◌≡◌, ◌-◌, ◌*◌, subst, arith}
 use Rattle.theory.specs.Grid.{pt}
 use Rattle.block.specs.Scan.{size_y}
 use Rattle.triangle.specs.Counting.{Counted}

@@ -1,8 +1,6 @@
-use Rattle.std.proofs.Common.{◌≡◌, ℕ, suc, ◌+◌, ◌-◌, ◌*◌, ◌/◌, ◌<◌, ◌≤◌, sym, ap, ◌∙◌, subst, ap₂, add-one, arith}
+use Rattle.std.proofs.Common.{◌≡◌, suc, ◌+◌, ◌-◌, ◌<◌, sym, subst, add-one, arith}
 use Rattle.theory.specs.Grid.{pt}
 use Rattle.block.specs.Scan.{size_x, inside}
-use Rattle.piece.specs.Table.{bit}
-use Rattle.triangle.specs.Cubes.{face_bits}
 use Rattle.triangle.specs.Counting.{Counted}
 use Rattle.triangle.specs.declared.Counts.{Counts}
 use Rattle.triangle.proofs.Counting.{counted_then, row_counted}

@@ -1,4 +1,4 @@
-use Rattle.std.proofs.Common.{◌≡◌, sym, refl, ◌∙◌}
+use Rattle.std.proofs.Common.{sym, refl, ◌∙◌}
 use Rattle.triangle.proofs.Steps.{block_done}
 use Rattle.triangle.proofs.write.write_block.Goals as goal
 

@@ -1,4 +1,4 @@
-use Rattle.std.proofs.Common.{◌≡◌, ◌-◌, sym, ◌∙◌, subst, add-one, arith}
+use Rattle.std.proofs.Common.{◌≡◌, ◌-◌, sym, subst, add-one, arith}
 use Rattle.theory.specs.Grid.{pt}
 use Rattle.block.specs.Scan.{size_y}
 use Rattle.triangle.specs.Progress.{Goes}

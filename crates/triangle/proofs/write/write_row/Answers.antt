@@ -1,8 +1,6 @@
-use Rattle.std.proofs.Common.{◌≡◌, ℕ, suc, ◌+◌, ◌-◌, ◌/◌, ◌<◌, sym, ap, ◌∙◌, subst, ap₂, add-one, arith}
+use Rattle.std.proofs.Common.{◌≡◌, suc, ◌+◌, ◌-◌, ◌<◌, sym, subst, add-one, arith}
 use Rattle.theory.specs.Grid.{pt}
 use Rattle.block.specs.Scan.{size_x, inside}
-use Rattle.piece.specs.Table.{bit}
-use Rattle.triangle.specs.Cubes.{face_bits}
 use Rattle.triangle.specs.Progress.{Goes}
 use Rattle.triangle.proofs.Steps.{goes_then, row_done}
 use Rattle.triangle.proofs.Pieces.{cube_of_faces, face_le}
