@@ -14,7 +14,7 @@ const USAGE: &str = "usage: check SKIN
 SKIN is a file of a skin's bytes, or - for standard input.
 A closed skin is answered by 'closed', any other by 'refused N at P', and status 1.";
 
-// What went wrong is said by then: nothing is printed of it here, and the status is 1.
+// What went wrong was said where it could be: the status is 1, and nothing more is printed.
 fn main(rt: HostRuntime) -> ExitCode {
     match answer(&rt) {
         Ok(()) => ExitCode::SUCCESS,

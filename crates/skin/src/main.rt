@@ -17,7 +17,7 @@ const USAGE: &str = "usage: skin BLOCK [OUT]
 BLOCK is a file of a block's bytes, or - for standard input. The skin's bytes are written to OUT, if it is named.
 A block that is refused is answered by 'refused N at P', and status 1.";
 
-// What went wrong is said by then: nothing is printed of it here, and the status is 1.
+// What went wrong was said where it could be: the status is 1, and nothing more is printed.
 fn main(rt: HostRuntime) -> ExitCode {
     match answer(&rt) {
         Ok(()) => ExitCode::SUCCESS,
