@@ -137,6 +137,12 @@ module _ (cs ts : List ℕ) where
   pub measured_at : (n m p : ℕ) (d : Part) → p < m → get_or (all_measured cs ts n m) p d ≡ measured cs ts n p
   measured_at n m p d l = get_or-map-range_with_len (measured cs ts n) 0 m p p d l (omega arith)
 
+  -- the part of the next triangle, as it is read
+  pub own_part :
+      (parts : List Part) (i m : ℕ) → parts ≡ all_measured cs ts i m → part_at ts i < m →
+      get_or parts (part_at ts i) (Outer 0 (pos 0)) ≡ measured cs ts i (part_at ts i)
+  own_part parts i m e l = ap (λ us. get_or us (part_at ts i) (Outer 0 (pos 0))) e ∙ measured_at i m (part_at ts i) (Outer 0 (pos 0)) l
+
   pub none_measured : (m : ℕ) → replicate m (part_of 0 (pos 0)) ≡ all_measured cs ts 0 m
   unfolding measured six_volume
   none_measured m =

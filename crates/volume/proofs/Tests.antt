@@ -32,6 +32,22 @@ low_all cs e i =
       | inr l ↦ omega (arith, get_or_past cs i 0 l)
     ]
 
+-- what the tests of a skin say together, whatever is asked of each triangle
+module _ (cs ts : List ℕ) (t : ℕ → Bool) (e : whole cs ts && (each_below (length cs) (low cs) && each_below (triangle_count ts) t) ≡ true) where
+  both : (whole cs ts ≡ true) × (each_below (length cs) (low cs) && each_below (triangle_count ts) t ≡ true)
+  both = and_parts (whole cs ts) (each_below (length cs) (low cs) && each_below (triangle_count ts) t) e
+
+  all_low : Low cs
+  all_low = low_all cs (and_parts (each_below (length cs) (low cs)) (each_below (triangle_count ts) t) both.1).0
+
+  at_most : triangle_count ts ≤ most_triangles
+  at_most =
+      let p = and_parts (eqb (length cs % 3) 0) (eqb (length ts % 4) 0 && leb (triangle_count ts) most_triangles) both.0 in
+      leb-true (triangle_count ts) most_triangles (and_parts (eqb (length ts % 4) 0) (leb (triangle_count ts) most_triangles) p.1).1
+
+  each : (i : ℕ) → i < triangle_count ts → t i ≡ true
+  each = each_below_at (triangle_count ts) t (and_parts (each_below (length cs) (low cs)) (each_below (triangle_count ts) t) both.1).1
+
 -- what is known where a skin can be measured
 pub record Facts (cs ts : List ℕ) (m : ℕ) : Type 0 where
   pub low_there : Low cs
@@ -43,15 +59,12 @@ pub record Facts (cs ts : List ℕ) (m : ℕ) : Type 0 where
 pub facts : (cs ts : List ℕ) (m : ℕ) → measurable cs ts m ≡ true → Facts cs ts m
 unfolding measurable
 facts cs ts m e =
-    let p = and_parts (whole cs ts) (each_below (length cs) (low cs) && each_below (triangle_count ts) (fine cs ts m)) e in
-    let q = and_parts (each_below (length cs) (low cs)) (each_below (triangle_count ts) (fine cs ts m)) p.1 in
-    let w = and_parts (eqb (length cs % 3) 0) (eqb (length ts % 4) 0 && leb (triangle_count ts) most_triangles) p.0 in
     record {
-      low_there = low_all cs q.0;
-      few = leb-true (triangle_count ts) most_triangles (and_parts (eqb (length ts % 4) 0) (leb (triangle_count ts) most_triangles) w.1).1;
-      corners = λ i l. (parts i (each_below_at (triangle_count ts) (fine cs ts m) q.1 i l)).0;
-      part_below = λ i l. (parts i (each_below_at (triangle_count ts) (fine cs ts m) q.1 i l)).1;
-      small = λ i l. (parts i (each_below_at (triangle_count ts) (fine cs ts m) q.1 i l)).2;
+      low_there = all_low cs ts (fine cs ts m) e;
+      few = at_most cs ts (fine cs ts m) e;
+      corners = λ i l. (parts i (each cs ts (fine cs ts m) e i l)).0;
+      part_below = λ i l. (parts i (each cs ts (fine cs ts m) e i l)).1;
+      small = λ i l. (parts i (each cs ts (fine cs ts m) e i l)).2;
     }
   where
     parts : (i : ℕ) → fine cs ts m i ≡ true → (cornered cs ts i ≡ true) × (part_at ts i < m) × (nat_abs (determinant_at cs ts i) ≤ 2 ^ 34)
@@ -70,14 +83,11 @@ pub record Bounds (cs ts : List ℕ) : Type 0 where
 pub bounds : (cs ts : List ℕ) → bounded cs ts ≡ true → Bounds cs ts
 unfolding bounded
 bounds cs ts e =
-    let p = and_parts (whole cs ts) (each_below (length cs) (low cs) && each_below (triangle_count ts) (bounded_at cs ts)) e in
-    let q = and_parts (each_below (length cs) (low cs)) (each_below (triangle_count ts) (bounded_at cs ts)) p.1 in
-    let w = and_parts (eqb (length cs % 3) 0) (eqb (length ts % 4) 0 && leb (triangle_count ts) most_triangles) p.0 in
     record {
-      low_there = low_all cs q.0;
-      few = leb-true (triangle_count ts) most_triangles (and_parts (eqb (length ts % 4) 0) (leb (triangle_count ts) most_triangles) w.1).1;
-      corners = λ i l. (parts i (each_below_at (triangle_count ts) (bounded_at cs ts) q.1 i l)).0;
-      small = λ i l. leb-true (nat_abs (determinant_at cs ts i)) (2 ^ 34) (parts i (each_below_at (triangle_count ts) (bounded_at cs ts) q.1 i l)).1;
+      low_there = all_low cs ts (bounded_at cs ts) e;
+      few = at_most cs ts (bounded_at cs ts) e;
+      corners = λ i l. (parts i (each cs ts (bounded_at cs ts) e i l)).0;
+      small = λ i l. leb-true (nat_abs (determinant_at cs ts i)) (2 ^ 34) (parts i (each cs ts (bounded_at cs ts) e i l)).1;
     }
   where
     parts : (i : ℕ) → bounded_at cs ts i ≡ true → (cornered cs ts i ≡ true) × (leb (nat_abs (determinant_at cs ts i)) (2 ^ 34) ≡ true)

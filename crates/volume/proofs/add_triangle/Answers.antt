@@ -1,19 +1,12 @@
 -- The triangle is fine, so it can be added to its part. Assumes nothing.
-use Rattle.std.proofs.Common.{◌≡◌, ℕ, ◌+◌, ◌^◌, ◌<◌, ◌≤◌, List, length, get_or, set, pos, ◌+ℤ◌, nat_abs, sym, ap, ◌∙◌, subst, ap₂, arith}
+use Rattle.std.proofs.Common.{◌+◌, ◌^◌, ◌<◌, ◌≤◌, length, set, ◌+ℤ◌, nat_abs, sym, ◌∙◌, subst, ap₂, arith}
 use Rattle.theory_volume.specs.Sizes.{most_triangles}
-use Rattle.volume.specs.declared.Part.{Part}
-use Rattle.volume.specs.declared.Part.TheVariants.{Outer}
 use Rattle.volume.specs.Buffer.{part_at}
-use Rattle.volume.specs.Measure.{part_of, count_of, volume_of, measured, all_measured, determinant_at}
+use Rattle.volume.specs.Measure.{part_of, count_of, volume_of, determinant_at}
 use Rattle.volume.proofs.Words.{kept_as}
 use Rattle.volume.proofs.Tests.{bounds}
-use Rattle.volume.proofs.Growing.{all_measured_more, all_measured_past, measured_at, count_few, volume_small}
+use Rattle.volume.proofs.Growing.{all_measured_more, all_measured_past, own_part, count_few, volume_small}
 use Rattle.volume.proofs.add_triangle.Goals as goal
-
--- the part of the next triangle, as it is read
-own : (cs ts : List ℕ) (parts : List Part) (i m : ℕ) → parts ≡ all_measured cs ts i m → part_at ts i < m →
-    get_or parts (part_at ts i) (Outer 0 (pos 0)) ≡ measured cs ts i (part_at ts i)
-own cs ts parts i m e l = ap (λ us. get_or us (part_at ts i) (Outer 0 (pos 0))) e ∙ measured_at cs ts i m (part_at ts i) (Outer 0 (pos 0)) l
 
 pub determinant_at-requires : goal.determinant_at-requires
 determinant_at-requires c =
@@ -27,7 +20,7 @@ with-requires c =
     let i = c.args.i in
     let p = part_at ts i in
     let f = bounds cs ts c.requires.bounded in
-    let e = own cs ts c.args.parts.now i (length c.args.parts.now) c.requires.before c.if-owner-parts.true in
+    let e = own_part cs ts c.args.parts.now i (length c.args.parts.now) c.requires.before c.if-owner-parts.true in
     let few : i < most_triangles = omega (arith, f.few, c.requires.there) in
     record {
       few = subst (λ q. count_of q < most_triangles) (sym e) (count_few cs ts i p few (λ j l. f.small j (omega (arith, c.requires.there))));
@@ -44,7 +37,7 @@ returns-then-owner-parts c =
     let i = c.args.i in
     let m = length c.args.parts.now in
     let f = bounds cs ts c.requires.bounded in
-    let e = own cs ts c.args.parts.now i m c.requires.before c.if-owner-parts.true in
+    let e = own_part cs ts c.args.parts.now i m c.requires.before c.if-owner-parts.true in
     let d = kept_as c.determinant_at.result (determinant_at cs ts i) c.determinant_at.ensures.value (f.small i c.requires.there) in
     record {
       added =

@@ -1,19 +1,12 @@
 -- Each triangle is fine, so it can be added to its part. Assumes nothing.
-use Rattle.std.proofs.Common.{◌≡◌, ℕ, ◌+◌, ◌^◌, ◌<◌, ◌≤◌, List, length, get_or, set, pos, ◌+ℤ◌, nat_abs, sym, ap, ◌∙◌, subst, ap₂, arith}
+use Rattle.std.proofs.Common.{◌+◌, ◌^◌, ◌<◌, ◌≤◌, length, set, ◌+ℤ◌, nat_abs, sym, ◌∙◌, subst, ap₂, arith}
 use Rattle.theory_volume.specs.Sizes.{most_triangles}
-use Rattle.volume.specs.declared.Part.{Part}
-use Rattle.volume.specs.declared.Part.TheVariants.{Outer}
 use Rattle.volume.specs.Buffer.{part_at}
-use Rattle.volume.specs.Measure.{part_of, count_of, volume_of, measured, all_measured, determinant_at}
+use Rattle.volume.specs.Measure.{part_of, count_of, volume_of, determinant_at}
 use Rattle.volume.proofs.Words.{kept_as}
 use Rattle.volume.proofs.Tests.{facts}
-use Rattle.volume.proofs.Growing.{all_measured_more, measured_at, count_few, volume_small}
+use Rattle.volume.proofs.Growing.{all_measured_more, own_part, count_few, volume_small}
 use Rattle.volume.proofs.add_up.Goals as goal
-
--- the part of the next triangle, as it is read
-own : (cs ts : List ℕ) (parts : List Part) (i m : ℕ) → parts ≡ all_measured cs ts i m → part_at ts i < m →
-    get_or parts (part_at ts i) (Outer 0 (pos 0)) ≡ measured cs ts i (part_at ts i)
-own cs ts parts i m e l = ap (λ us. get_or us (part_at ts i) (Outer 0 (pos 0))) e ∙ measured_at cs ts i m (part_at ts i) (Outer 0 (pos 0)) l
 
 pub slice_copy_out-part : goal.slice_copy_out-part
 slice_copy_out-part c =
@@ -37,7 +30,7 @@ with-requires c =
     let i = c.loop-i.i in
     let p = part_at ts i in
     let f = facts cs ts (length c.args.parts.now) c.requires.measurable in
-    let e = own cs ts c.loop-i.parts i (length c.args.parts.now) c.loop-i.invariant (f.part_below i c.loop-i-test.true) in
+    let e = own_part cs ts c.loop-i.parts i (length c.args.parts.now) c.loop-i.invariant (f.part_below i c.loop-i-test.true) in
     let few : i < most_triangles = omega (arith, f.few) in
     record {
       few = subst (λ q. count_of q < most_triangles) (sym e) (count_few cs ts i p few (λ j l. f.small j (omega arith)));
@@ -54,7 +47,7 @@ loop-i-preserved c =
     let i = c.loop-i.i in
     let m = length c.args.parts.now in
     let f = facts cs ts m c.requires.measurable in
-    let e = own cs ts c.loop-i.parts i m c.loop-i.invariant (f.part_below i c.loop-i-test.true) in
+    let e = own_part cs ts c.loop-i.parts i m c.loop-i.invariant (f.part_below i c.loop-i-test.true) in
     let d = kept_as c.determinant_at.result (determinant_at cs ts i) c.determinant_at.ensures.value (f.small i c.loop-i-test.true) in
     ap₂ (λ us q. set us (part_at ts i) q) c.loop-i.invariant
     (c.with.ensures.value ∙ ap₂ (λ q v. part_of (count_of q + 1) (volume_of q +ℤ v)) e d)
