@@ -2,11 +2,10 @@
 #![tactic(auto)]
 
 mod rounds;
-mod spans;
 
-use rounds::{Buffers, Outcome, run};
-use spans::{LABELS, Spans, sorted};
+use rounds::{Buffers, Outcome, sorted};
 use std::{env, fs, io};
+use whole::Made;
 
 const USAGE: &str = "usage: bench BLOCK..
 For each block seven rounds over the same buffers, after one that is not counted: the best and the median of each stage.
@@ -29,35 +28,32 @@ fn main(rt: HostRuntime) -> anyhow::Result<()> {
 fn bench(rt: &HostRuntime, name: &str) -> anyhow::Result<()> {
     let bytes = fs::read(rt, name)?;
     let mut buffers = Buffers::new(rt.alloc(), bytes.as_slice())?;
-    let first = run(rt, bytes.as_slice(), &mut buffers)?;
+    let first = buffers.round(rt, bytes.as_slice())?;
     let mut rounds = Vec::new(rt.alloc());
     for _ in 0..ROUNDS {
-        rounds.push(run(rt, bytes.as_slice(), &mut buffers)?.spans)?;
+        rounds.push(buffers.round(rt, bytes.as_slice())?)?;
     }
-    show(rt, name, first, rounds.as_slice())?;
-    Ok(())
+    Ok(show(rt, name, &first, rounds.as_slice())?)
 }
 
-fn show(rt: &HostRuntime, name: &str, found: Outcome, rounds: &[Spans]) -> io::Result<()> {
-    let (corners, triangles, parts) = (found.corners, found.triangles, found.parts);
+fn show(rt: &HostRuntime, name: &str, first: &Outcome, rounds: &[Outcome]) -> io::Result<()> {
+    let Made {
+        corners,
+        triangles,
+        parts,
+    } = first.made;
     println!(rt; "{name} corners {corners} triangles {triangles} parts {parts}")?;
-    for (stage, label) in LABELS.iter().enumerate() {
+    for (stage, (label, _)) in first.spans.iter().enumerate() {
         let nanos = sorted(rt.alloc(), rounds, stage)?;
-        let best = nanos.first().copied().unwrap_or(0);
-        let median = nanos.get(nanos.len() / 2).copied().unwrap_or(0);
-        show_stage(rt, label, best, median, u64::from(triangles))?;
+        show_stage(rt, label, nanos.as_slice(), u64::from(triangles))?;
     }
     Ok(())
 }
 
-fn show_stage(
-    rt: &HostRuntime,
-    label: &str,
-    best: u64,
-    median: u64,
-    triangles: u64,
-) -> io::Result<()> {
+fn show_stage(rt: &HostRuntime, label: &str, nanos: &[u64], triangles: u64) -> io::Result<()> {
+    let [best, ..] = nanos else { return Ok(()) };
+    let median = nanos[nanos.len() / 2];
     let tenths = median.saturating_mul(10) / triangles.max(1);
-    let (best, median, each, tenth) = (best / 1000, median / 1000, tenths / 10, tenths % 10);
+    let (best, median, each, tenth) = (*best / 1000, median / 1000, tenths / 10, tenths % 10);
     println!(rt; "  {label} best {best} us median {median} us, {each}.{tenth} ns a triangle")
 }

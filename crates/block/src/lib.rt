@@ -1,9 +1,13 @@
 // A scan as a block of values on a grid: read from its bytes, or refused by a number and a place.
 #![tactic(auto)]
 
-ghost use Rattle.std.specs.Prelude.{◌≡◌, ℕ, ◌^◌, ◌<◌, List, [], ◌∷◌, length, Some, None, MatchResult, slice_index};
-ghost use Rattle.theory.specs.Grid.{Point, pt};
+ghost use Rattle.std.specs.Prelude.{◌≡◌, ℕ, ◌*◌, ◌^◌, ◌<◌, List, [], ◌∷◌, length, Some, None, MatchResult, slice_index, position, not};
+ghost use Rattle.std.specs.Result.{result_err};
+ghost use Rattle.theory.specs.Grid.{pt};
+ghost use Rattle.grid.specs.Places.{at};
 ghost use Rattle.block.specs.Scan.{bytes_in, in_range, at_end, size_x, size_y, size_z, threshold, byte_of, value_of, within, inside, on_border, row, layer, points, fault_at, faults, header_fault, excess, refusal_of, Taken, TakenIfGood};
+
+use grid::Point;
 
 mod refusal;
 
@@ -22,13 +26,12 @@ pub struct Block<'a> {
 
 impl<'a> Block<'a> {
     // The block in these bytes, or the first thing that is wrong with them. One pass, in time linear in the number of points.
+    #[tactic(auto, using(crate::proofs::Goodness::taken))]
     pub fn read(bytes: &'a [u8]) -> Result<Block<'a>, Refusal>
         ensures cases { MatchResult result (λ k. (k.bytes.now ≡ bytes.now) × Taken bytes.now) (λ e. refusal_of bytes.now ≡ Some e) }
     {
         let block = Block { bytes };
-        if let Some(refusal) = block.refusal() {
-            return Err(refusal);
-        }
+        block.check()?;
         Ok(block)
     }
 
@@ -53,6 +56,14 @@ impl<'a> Block<'a> {
         self.byte(2)
     }
 
+    // How many points there are.
+    pub fn points(&self) -> usize
+        ensures value { result ≡ size_x (bytes_in self.entry) * (size_y (bytes_in self.entry) * size_z (bytes_in self.entry)) }
+        ensures bound { result < 2 ^ 24 }
+    {
+        self.size_x() as usize * (self.size_y() as usize * self.size_z() as usize)
+    }
+
     // The value from which on a point is inside.
     pub fn threshold(&self) -> u8
         ensures value { result ≡ threshold (bytes_in self.entry) }
@@ -61,145 +72,134 @@ impl<'a> Block<'a> {
     }
 
     // The value of a point; 0 where there is no byte for it.
-    pub fn value(&self, x: u8, y: u8, z: u8) -> u8
-        ensures value { result ≡ value_of (bytes_in self.entry) (pt x y z) }
+    pub fn value(&self, p: Point) -> u8
+        ensures value { result ≡ value_of (bytes_in self.entry) (at p) }
     {
-        self.byte(self.place(x, y, z))
+        self.byte(self.place(p))
     }
 
     // Whether a point is inside: it lies in the block, and its value is the threshold or more.
-    pub fn inside(&self, x: u8, y: u8, z: u8) -> bool
-        ensures value { result ≡ inside (bytes_in self.entry) (pt x y z) }
+    #[tactic(auto, unfolding(crate::specs::Scan::inside))]
+    pub fn inside(&self, p: Point) -> bool
+        ensures value { result ≡ inside (bytes_in self.entry) (at p) }
     {
-        self.within(x, y, z) && self.value(x, y, z) >= self.threshold()
+        self.within(p) && self.value(p) >= self.threshold()
     }
 
-    fn within(&self, x: u8, y: u8, z: u8) -> bool
-        ensures value { result ≡ within (bytes_in self.entry) (pt x y z) }
+    fn within(&self, p: Point) -> bool
+        ensures value { result ≡ within (bytes_in self.entry) (at p) }
     {
-        x < self.size_x() && y < self.size_y() && z < self.size_z()
+        p.x < self.size_x() && p.y < self.size_y() && p.z < self.size_z()
     }
 
     fn byte(&self, i: usize) -> u8
         ensures value { result ≡ slice_index (bytes_in self.entry) i }
     {
-        if i < self.bytes.len() {
-            self.bytes[i]
-        } else {
-            0
-        }
+        self.bytes.get(i).copied().unwrap_or(0)
     }
 
-    fn place(&self, x: u8, y: u8, z: u8) -> usize
-        ensures value { result ≡ byte_of (bytes_in self.entry) (pt x y z) }
+    fn place(&self, p: Point) -> usize
+        ensures value { result ≡ byte_of (bytes_in self.entry) (at p) }
         ensures bound { result < 2 ^ 32 }
     {
         let a = self.size_x() as usize;
         let b = self.size_y() as usize;
-        4 + (x as usize + a * (y as usize + b * z as usize))
+        4 + (p.x as usize + a * (p.y as usize + b * p.z as usize))
     }
 
-    fn refusal(&self) -> Option<Refusal>
-        ensures value { result ≡ refusal_of (bytes_in self.entry) }
+    #[tactic(auto, unfolding(crate::specs::Scan::refusal_of))]
+    fn check(&self) -> Result<(), Refusal>
+        ensures value { result_err result ≡ refusal_of (bytes_in self.entry) }
     {
-        if let Some(refusal) = self.header_fault() {
-            return Some(refusal);
-        }
-        if let Some(refusal) = self.values_fault() {
-            return Some(refusal);
-        }
-        self.excess()
+        self.check_header()?;
+        self.check_values()?;
+        self.check_end()
     }
 
-    fn header_fault(&self) -> Option<Refusal>
-        ensures value { result ≡ header_fault (bytes_in self.entry) }
+    fn check_header(&self) -> Result<(), Refusal>
+        ensures value { result_err result ≡ header_fault (bytes_in self.entry) }
     {
         if self.bytes.len() < 4 {
-            Some(Refusal::WrongLength(self.bytes.len()))
-        } else if !in_range(self.size_x()) {
-            Some(Refusal::WrongSize(0))
-        } else if !in_range(self.size_y()) {
-            Some(Refusal::WrongSize(1))
-        } else if !in_range(self.size_z()) {
-            Some(Refusal::WrongSize(2))
-        } else if self.threshold() == 0 {
-            Some(Refusal::WrongSize(3))
-        } else {
-            None
+            return Err(Refusal::WrongLength(self.bytes.len()));
         }
+        if let Some(axis) = self.wrong_axis() {
+            return Err(Refusal::WrongSize(axis));
+        }
+        if self.threshold() == 0 {
+            return Err(Refusal::WrongSize(3));
+        }
+        Ok(())
     }
 
-    fn values_fault(&self) -> Option<Refusal>
-        ensures value { result ≡ faults (bytes_in self.entry) (points (bytes_in self.entry)) 4 }
+    // The first axis along which there are too few points or too many.
+    fn wrong_axis(&self) -> Option<usize>
+        ensures value { let bs = bytes_in self.entry in result ≡ position (λ n. not (in_range n)) (size_x bs ∷ size_y bs ∷ size_z bs ∷ []) }
+    {
+        let sizes = [self.size_x(), self.size_y(), self.size_z()];
+        sizes.iter().position(|&size| !in_range(size))
+    }
+
+    fn check_values(&self) -> Result<(), Refusal>
+        ensures value { let bs = bytes_in self.entry in result_err result ≡ faults bs (points bs) 4 }
     {
         for z in 0..self.size_z() {
-            if let Some(refusal) = self.layer_fault(z) {
-                return Some(refusal);
-            }
+            self.check_layer(z)?;
         }
-        None
+        Ok(())
     }
 
-    fn layer_fault(&self, z: u8) -> Option<Refusal>
-        ensures value { result ≡ faults (bytes_in self.entry) (layer (size_x (bytes_in self.entry)) (size_y (bytes_in self.entry)) z) (byte_of (bytes_in self.entry) (pt 0 0 z)) }
+    fn check_layer(&self, z: u8) -> Result<(), Refusal>
+        ensures value { let bs = bytes_in self.entry in result_err result ≡ faults bs (layer (size_x bs) (size_y bs) z) (byte_of bs (pt 0 0 z)) }
     {
         for y in 0..self.size_y() {
-            if let Some(refusal) = self.row_fault(y, z) {
-                return Some(refusal);
-            }
+            self.check_row(y, z)?;
         }
-        None
+        Ok(())
     }
 
-    fn row_fault(&self, y: u8, z: u8) -> Option<Refusal>
-        ensures value { result ≡ faults (bytes_in self.entry) (row (size_x (bytes_in self.entry)) y z) (byte_of (bytes_in self.entry) (pt 0 y z)) }
+    fn check_row(&self, y: u8, z: u8) -> Result<(), Refusal>
+        ensures value { let bs = bytes_in self.entry in result_err result ≡ faults bs (row (size_x bs) y z) (byte_of bs (pt 0 y z)) }
     {
-        let first = self.place(0, y, z);
+        let first = self.place(Point { x: 0, y, z });
         for x in 0..self.size_x() {
-            if let Some(refusal) = self.point_fault(x, y, z, first + x as usize) {
-                return Some(refusal);
-            }
+            self.check_point(Point { x, y, z }, first + x as usize)?;
         }
-        None
+        Ok(())
     }
 
-    fn point_fault(&self, x: u8, y: u8, z: u8, place: usize) -> Option<Refusal>
-        ensures value { result ≡ fault_at (bytes_in self.entry) (pt x y z) place }
+    fn check_point(&self, p: Point, place: usize) -> Result<(), Refusal>
+        ensures value { result_err result ≡ fault_at (bytes_in self.entry) (at p) place }
     {
-        if place >= self.bytes.len() {
-            Some(Refusal::WrongLength(place))
-        } else if self.on_border(x, y, z) && self.bytes[place] >= self.threshold() {
-            Some(Refusal::OpenBorder(place))
-        } else {
-            None
+        let Some(&value) = self.bytes.get(place) else {
+            return Err(Refusal::WrongLength(place));
+        };
+        if self.on_border(p) && value >= self.threshold() {
+            return Err(Refusal::OpenBorder(place));
         }
+        Ok(())
     }
 
-    fn on_border(&self, x: u8, y: u8, z: u8) -> bool
-        ensures value { result ≡ on_border (bytes_in self.entry) (pt x y z) }
+    fn on_border(&self, p: Point) -> bool
+        ensures value { result ≡ on_border (bytes_in self.entry) (at p) }
     {
-        at_end(x, self.size_x()) || at_end(y, self.size_y()) || at_end(z, self.size_z())
+        at_end(p.x, self.size_x()) || at_end(p.y, self.size_y()) || at_end(p.z, self.size_z())
     }
 
-    fn excess(&self) -> Option<Refusal>
-        ensures value { result ≡ excess (bytes_in self.entry) }
+    fn check_end(&self) -> Result<(), Refusal>
+        ensures value { result_err result ≡ excess (bytes_in self.entry) }
     {
-        let a = self.size_x() as usize;
-        let b = self.size_y() as usize;
-        let c = self.size_z() as usize;
-        let end = 4 + a * (b * c);
+        let end = 4 + self.points();
         if end < self.bytes.len() {
-            Some(Refusal::WrongLength(end))
-        } else {
-            None
+            return Err(Refusal::WrongLength(end));
         }
+        Ok(())
     }
 }
 
 fn in_range(size: u8) -> bool
     ensures value { result ≡ in_range size }
 {
-    LEAST <= size && size <= MOST
+    (LEAST..=MOST).contains(&size)
 }
 
 // The first or the last of so many points.
@@ -222,10 +222,7 @@ mod tests {
     use std::test::Fail;
 
     fn refused(bytes: &[u8]) -> Option<Refusal> {
-        match Block::read(bytes) {
-            Ok(_) => None,
-            Err(refusal) => Some(refusal),
-        }
+        Block::read(bytes).err()
     }
 
     #[test]
@@ -284,18 +281,11 @@ mod tests {
         bytes[3] = 1;
         bytes[4 + 1 + 96 + 96 * 96] = 1;
         assert_eq!(rt; refused(bytes.as_slice()), None);
-        assert!(rt;
-            Block {
-                bytes: bytes.as_slice()
-            }
-            .inside(1, 1, 1)
-        );
-        assert!(rt;
-            !Block {
-                bytes: bytes.as_slice()
-            }
-            .inside(1, 1, 2)
-        );
+        let block = Block {
+            bytes: bytes.as_slice(),
+        };
+        assert!(rt; block.inside(Point { x: 1, y: 1, z: 1 }));
+        assert!(rt; !block.inside(Point { x: 1, y: 1, z: 2 }));
         bytes.push(0)?;
         assert_eq!(rt;
             refused(bytes.as_slice()),

@@ -18,7 +18,7 @@ pub enum Refusal {
 }
 
 impl Refusal {
-    // What is wrong, as a number of 1 to 8.
+    // What is wrong, as a number of 1 to 8; by a match, since variants that hold a place are not cast to their numbers.
     pub fn number(self) -> u8
         ensures value { result ≡ number_of self }
     {
@@ -39,14 +39,14 @@ impl Refusal {
         ensures value { result ≡ place_of self }
     {
         match self {
-            Refusal::WrongLength(at) => at,
-            Refusal::WrongSize(at) => at,
-            Refusal::OpenBorder(at) => at,
-            Refusal::ShortBuffer(at) => at,
-            Refusal::BadTriangle(at) => at,
-            Refusal::BadSide(at) => at,
-            Refusal::BadRing(at) => at,
-            Refusal::BadPart(at) => at,
+            Refusal::WrongLength(at)
+            | Refusal::WrongSize(at)
+            | Refusal::OpenBorder(at)
+            | Refusal::ShortBuffer(at)
+            | Refusal::BadTriangle(at)
+            | Refusal::BadSide(at)
+            | Refusal::BadRing(at)
+            | Refusal::BadPart(at) => at,
         }
     }
 }

@@ -1,7 +1,7 @@
 // check SKIN: says whether a skin's bytes, from anywhere, are a closed skin, or which rule is in fault and where.
 #![tactic(auto)]
 
-use anyhow::anyhow;
+use anyhow::bail;
 use block::Refusal;
 use checker::{check, work_needed};
 use mesh::Header;
@@ -9,12 +9,22 @@ use std::alloc::{AllocError, Global};
 use std::io::Read;
 use std::process::ExitCode;
 use std::{env, fs, io};
+use thiserror::Error;
 
 const USAGE: &str = "usage: check SKIN
 SKIN is a file of a skin's bytes, or - for standard input.
 A closed skin is answered by 'closed', any other by 'refused N at P', and status 1.";
 
-// What went wrong was said where it could be: the status is 1, and nothing more is printed.
+// Why bytes are not called closed.
+#[derive(Debug, Drop, Error)]
+enum Fault {
+    #[error("{0}")]
+    Refused(#[from] Refusal),
+    #[error("not enough memory to check it")]
+    NoMemory(#[from] AllocError),
+}
+
+// What went wrong was said where it could be, and whole, which an error keeps only in part: here only the status is left.
 fn main(rt: HostRuntime) -> ExitCode {
     match answer(&rt) {
         Ok(()) => ExitCode::SUCCESS,
@@ -24,15 +34,14 @@ fn main(rt: HostRuntime) -> ExitCode {
 
 fn answer(rt: &HostRuntime) -> anyhow::Result<()> {
     let args: Vec<String> = env::args(rt)?.skip(1).collect(rt.alloc())?;
-    if args.len() != 1 {
-        rt.eprintln(USAGE)?;
-        return Err(anyhow!("wrong use"));
+    match args.as_slice() {
+        [help] if help.as_str() == "--help" => Ok(rt.println(USAGE)?),
+        [skin] => run(rt, skin.as_str()),
+        _ => {
+            rt.eprintln(USAGE)?;
+            bail!("wrong use")
+        }
     }
-    if args[0].as_str() == "--help" {
-        rt.println(USAGE)?;
-        return Ok(());
-    }
-    run(rt, args[0].as_str())
 }
 
 fn run(rt: &HostRuntime, name: &str) -> anyhow::Result<()> {
@@ -40,12 +49,12 @@ fn run(rt: &HostRuntime, name: &str) -> anyhow::Result<()> {
         Ok(bytes) => report(rt, bytes.as_slice(), name),
         Err(e) => {
             eprintln!(rt; "check: {name}: {e}")?;
-            Err(anyhow!("not read"))
+            bail!("not read")
         }
     }
 }
 
-// The bytes of a file, or of standard input.
+// The bytes of a file, which are read at once, as its length is known, or of standard input.
 fn contents(rt: &HostRuntime, name: &str) -> io::Result<Vec<u8>> {
     if name != "-" {
         return fs::read(rt, name);
@@ -57,28 +66,21 @@ fn contents(rt: &HostRuntime, name: &str) -> io::Result<Vec<u8>> {
 
 fn report(rt: &HostRuntime, bytes: &[u8], name: &str) -> anyhow::Result<()> {
     match verdict(rt.alloc(), bytes) {
-        Ok(Ok(())) => {
-            rt.println("closed")?;
-            Ok(())
-        }
-        Ok(Err(refusal)) => {
+        Ok(()) => Ok(rt.println("closed")?),
+        Err(Fault::Refused(refusal)) => {
             rt.println(refusal)?;
-            Err(anyhow!("refused"))
+            bail!("refused")
         }
-        Err(_) => {
-            eprintln!(rt; "check: {name}: not enough memory to check it")?;
-            Err(anyhow!("no memory"))
+        Err(fault) => {
+            eprintln!(rt; "check: {name}: {fault}")?;
+            bail!("not checked")
         }
     }
 }
 
 // The checker in memory of its own. Bytes that are fewer than their header says are refused before anything is allocated for them.
-fn verdict(heap: Global, bytes: &[u8]) -> Result<Result<(), Refusal>, AllocError> {
-    match Header::read(bytes) {
-        Ok(header) => {
-            let mut work = vec![in heap; 0u32; work_needed(header.corners, header.triangles)]?;
-            Ok(check(bytes, work.as_mut_slice()))
-        }
-        Err(refusal) => Ok(Err(refusal)),
-    }
+fn verdict(heap: Global, bytes: &[u8]) -> Result<(), Fault> {
+    let header = Header::read(bytes)?;
+    let mut work = vec![in heap; 0u32; work_needed(header.corners, header.triangles)]?;
+    Ok(check(bytes, work.as_mut_slice())?)
 }

@@ -5,7 +5,8 @@ use Rattle.std.proofs.lemmas.List.{get_or_append_left, get_or_push}
 use Rattle.std.proofs.lemmas.Bool.{cases_eq}
 use Rattle.theory.specs.Triangle.{has}
 use Rattle.theory_parts.specs.Parts.{Ringed, Numbered}
-use Rattle.part.specs.Buffer.{triangle_at, part_at, count_in, triangles_in, parts_in, InRange}
+use Rattle.theory_parts.specs.Buffer.{triangle_at, part_at, count_in, triangles_in, parts_in}
+use Rattle.part.specs.Taking.{InRange}
 use Rattle.part.specs.Links.{ByLinks}
 use Rattle.part.proofs.Laws.{links_number_parts}
 use Rattle.checker.specs.Verdict.{Sound, RingedOnce, All}

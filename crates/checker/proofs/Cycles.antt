@@ -1,11 +1,36 @@
 -- Steps of which each corner has at most one out and as many in: whoever follows them from a corner comes back to it, and the steps are one
 -- ring exactly if that takes as many steps as there are. Assumes nothing.
-use Rattle.std.proofs.Common.{◌≡◌, ℕ, zero, suc, ◌+◌, ◌*◌, ◌<◌, ◌≤◌, Bool, true, false, cond, not, eqb, List, [], ◌∷◌, length, sym, refl, ap, ◌∙◌, ⊎_elim, add-mul, one-mul, zero-mul, arith}
+use Rattle.std.proofs.Common.{◌≡◌, ℕ, zero, suc, ◌+◌, ◌*◌, ◌<◌, ◌≤◌, Bool, true, false, cond, not, eqb, ◌≢◌, ◌⊎◌, List, [], ◌∷◌, length, sym, refl, ap, ◌∙◌, inl, inr, ⊎_elim, add-mul, one-mul, zero-mul, arith}
 use Rattle.std.specs.List.{AllByRecursion}
 use Rattle.std.proofs.lemmas.Bool.{cases_lt, cases_eq, eq-eqb, ne_eqb}
 use Rattle.theory.specs.Triangle.{sum_of, one_if, times, walk}
 use Rattle.theory.proofs.Sums.{sum_ones}
-use Rattle.checker.specs.Passes.{led, NoReturn}
+use Rattle.checker.specs.Passes.{led}
+
+-- no way back to s in fewer than n steps
+abbrev pub NoReturn : (ℕ → ℕ) → ℕ → ℕ → Type 0
+NoReturn f s n = (j : ℕ) → 0 < j → j < n → led f s j ≡ s → ⊥
+
+-- the first way back to s, in fewer than n steps
+pub record EarlyReturn (f : ℕ → ℕ) (s n : ℕ) : Type 0 where
+  pub taken : ℕ
+  pub some : 0 < taken
+  pub early : taken < n
+  pub first : NoReturn f s taken
+  pub there : led f s taken ≡ s
+
+pub late_or_early : (f : ℕ → ℕ) (s n : ℕ) → NoReturn f s n ⊎ EarlyReturn f s n
+late_or_early f s zero = inl (λ j a b. absurd (omega arith))
+late_or_early f s (suc n) =
+    ⊎_elim
+    (λ late. ⊎_elim
+    (λ e. ⊎_elim (λ some. inr (record { taken = n; some = some; early = omega arith; first = late; there = e }))
+    (λ none. inl (λ j a b. absurd (omega arith))) (cases_lt 0 n))
+    (λ no_way. inl (λ j a b e.
+    ⊎_elim (λ less. late j a less e) (λ more. let z : j ≡ n = omega arith in no_way (ap (led f s) (sym z) ∙ e)) (cases_lt j n)))
+    (cases_eq (led f s n) s))
+    (λ r. inr (record { taken = r.taken; some = r.some; early = omega (arith, r.early); first = r.first; there = r.there }))
+    (late_or_early f s n)
 
 -- sums and what holds of each element
 pub every_with : {A : Type 0} (P Q : A → Type 0) → ((x : A) → P x → Q x) → (xs : List A) → AllByRecursion P xs → AllByRecursion Q xs
@@ -85,6 +110,28 @@ module _ (f : ℕ → ℕ) where
   not_in_trail x s (suc k) n =
       omega (arith, ap one_if (ne_eqb s x (n 0 (omega arith))), not_in_trail x (f s) k (λ j l. n (suc j) (omega arith)))
 
+  in_trail : (x s k : ℕ) → 0 < times eqb x (trail s k) → (j : ℕ) × (j < k) × (led f s j ≡ x)
+  in_trail x s zero h = absurd (omega arith)
+  in_trail x s (suc k) h =
+      ⊎_elim (λ e. (0, omega arith, e))
+      (λ n. let r = in_trail x (f s) k (omega (arith, ap one_if (ne_eqb s x n))) in (suc r.0, omega (arith, r.1), r.2)) (cases_eq s x)
+
+  trail_every : (P : ℕ → Type 0) (s k : ℕ) → ((j : ℕ) → j < k → P (led f s j)) → AllByRecursion P (trail s k)
+  trail_every P s zero a = tt
+  trail_every P s (suc k) a = (a 0 (omega arith), trail_every P (f s) k (λ j l. a (suc j) (omega arith)))
+
+  -- no two of the first k corners are one
+  abbrev pub Apart : ℕ → ℕ → Type 0
+  Apart s k = (i j : ℕ) → i < j → j < k → led f s i ≢ led f s j
+
+  apart_once : (s k : ℕ) → Apart s k → (x : ℕ) → times eqb x (trail s k) ≤ 1
+  apart_once s zero a x = omega arith
+  apart_once s (suc k) a x =
+      ⊎_elim
+      (λ e. omega (arith, ap one_if (eq-eqb s x e), not_in_trail x (f s) k (λ j l g. a 0 (suc j) (omega arith) (omega arith) (e ∙ sym g))))
+      (λ m. omega (arith, ap one_if (ne_eqb s x m), apart_once (f s) k (λ i j l h. a (suc i) (suc j) (omega arith) (omega arith)) x))
+      (cases_eq s x)
+
 -- how many steps leave a corner, and how many arrive there
 abbrev pub leaving : List (ℕ × ℕ) → ℕ → ℕ
 leaving L d = sum_of (λ p. one_if (eqb d p.0)) L
@@ -96,6 +143,21 @@ arriving L d = sum_of (λ p. one_if (eqb d p.1)) L
 leaves : (L : List (ℕ × ℕ)) → AllByRecursion (λ p. 0 < leaving L p.0) L
 leaves [] = tt
 leaves (p ∷ L) = (omega (arith, ap one_if (eq-eqb p.0 p.0 refl)), every_with _ _ (λ q h. omega arith) L (leaves L))
+
+-- a trail of which each corner is left by one step
+module _ (f : ℕ → ℕ) (L : List (ℕ × ℕ)) (s k : ℕ) (left : (j : ℕ) → j < k → leaving L (led f s j) ≡ 1) where
+  -- so many of the steps leave a corner of it
+  covered : sum_of (λ p. times eqb p.0 (trail f s k)) L ≡ k
+  covered =
+      sum_swap (λ p v. one_if (eqb v p.0)) L (trail f s k)
+      ∙ sum_every_same (leaving L) (λ v. 1) (trail f s k) (trail_every f (λ v. leaving L v ≡ 1) s k left)
+      ∙ sum_ones (trail f s k) ∙ trail_length f s k
+
+  -- if that is all of them, each step leaves a corner of it
+  pub all_left : Apart f s k → length L ≡ k → AllByRecursion (λ p. (j : ℕ) × (j < k) × (led f s j ≡ p.0)) L
+  all_left apart long =
+      every_with _ _ (λ p e. in_trail f p.0 s k (omega arith)) L
+      (all_ones (λ p. times eqb p.0 (trail f s k)) L (every_all _ (λ p. apart_once f s k apart p.0) L) (covered ∙ sym long))
 
 module _ (f : ℕ → ℕ) (L : List (ℕ × ℕ)) (follows : AllByRecursion (λ p. f p.0 ≡ p.1) L)
     (once : (d : ℕ) → leaving L d ≤ 1) (even : (d : ℕ) → leaving L d ≡ arriving L d) where
@@ -127,34 +189,26 @@ module _ (f : ℕ → ℕ) (L : List (ℕ × ℕ)) (follows : AllByRecursion (λ
             once (f d),
           )
 
-  leaving_led : (s : ℕ) → 0 < leaving L s → (k : ℕ) → 0 < leaving L (led f s k)
+  pub leaving_led : (s : ℕ) → 0 < leaving L s → (k : ℕ) → 0 < leaving L (led f s k)
   leaving_led s a zero = a
   leaving_led s a (suc k) = leaving_led (f s) (omega (arith, onward s)) k
 
+  pub late_apart : (s k : ℕ) → 0 < leaving L s → NoReturn f s k → Apart f s k
+  late_apart s k a n zero j l m e = n j l m (sym e)
+  late_apart s k a n (suc i) zero l m e = absurd (omega arith)
+  late_apart s k a n (suc i) (suc j) l m e =
+      late_apart s k a n i j (omega arith) (omega arith)
+      (one_way_in (led f s i) (led f s j) (leaving_led s a i) (leaving_led s a j) (sym (led_next f s i) ∙ e ∙ led_next f s j))
+
   trail_once : (s k : ℕ) → 0 < leaving L s → NoReturn f s k → (x : ℕ) → times eqb x (trail f s k) ≤ 1
-  trail_once s zero a n x = omega arith
-  trail_once s (suc k) a n x =
-      ⊎_elim
-      (λ e. omega (arith, ap one_if (eq-eqb s x e), not_in_trail f x (f s) k (λ j l g. n (suc j) (omega arith) (omega arith) (g ∙ sym e))))
-      (λ m. omega (arith, ap one_if (ne_eqb s x m), trail_once (f s) k (omega (arith, onward s)) next x))
-      (cases_eq s x)
-    where
-      next : NoReturn f (f s) k
-      next j l m e = n j l (omega arith) (one_way_in (led f s j) s (leaving_led s a j) a (sym (led_next f s j) ∙ e))
+  trail_once s k a n = apart_once f s k (late_apart s k a n)
 
-  trail_leaving : (s k : ℕ) → 0 < leaving L s → AllByRecursion (λ v. leaving L v ≡ 1) (trail f s k)
-  trail_leaving s zero a = tt
-  trail_leaving s (suc k) a = (omega (arith, once s), trail_leaving (f s) k (omega (arith, onward s)))
-
-  -- so many of the steps leave a corner of a trail
-  covered : (s k : ℕ) → 0 < leaving L s → sum_of (λ p. times eqb p.0 (trail f s k)) L ≡ k
-  covered s k a =
-      sum_swap (λ p v. one_if (eqb v p.0)) L (trail f s k)
-      ∙ sum_every_same (leaving L) (λ v. 1) (trail f s k) (trail_leaving s k a) ∙ sum_ones (trail f s k) ∙ trail_length f s k
+  left_once : (s : ℕ) → 0 < leaving L s → (k j : ℕ) → j < k → leaving L (led f s j) ≡ 1
+  left_once s a k j l = omega (arith, once (led f s j), leaving_led s a j)
 
   covered_most : (s k : ℕ) → 0 < leaving L s → NoReturn f s k → k ≤ length L
   covered_most s k a n =
-      omega (arith, covered s k a, sum_ones L, sum_every_most (λ p. times eqb p.0 (trail f s k)) (λ p. 1) L (every_all _ (λ p. trail_once s k a n p.0) L))
+      omega (arith, covered f L s k (left_once s a k), sum_ones L, sum_every_most (λ p. times eqb p.0 (trail f s k)) (λ p. 1) L (every_all _ (λ p. trail_once s k a n p.0) L))
 
   module _ (s : ℕ) (a : 0 < leaving L s) where
     -- the way back takes at most as many steps as there are
@@ -171,14 +225,14 @@ module _ (f : ℕ → ℕ) (L : List (ℕ × ℕ)) (follows : AllByRecursion (λ
     walked m l n h =
         sum_every_same h (λ p. sum_of (λ v. cond (eqb v p.0) (h p) 0) vs) L (every_with _ _ one_each L ones)
         ∙ sum_swap (λ p v. cond (eqb v p.0) (h p) 0) L vs
-        ∙ sum_every_same (λ v. sum_of (λ p. cond (eqb v p.0) (h p) 0) L) (λ v. h (v, f v)) vs (every_with _ _ from_each vs (trail_leaving s (suc m) a))
+        ∙ sum_every_same (λ v. sum_of (λ p. cond (eqb v p.0) (h p) 0) L) (λ v. h (v, f v)) vs (every_with _ _ from_each vs (trail_every f (λ v. leaving L v ≡ 1) s (suc m) (left_once s a (suc m))))
         ∙ sym (walk_trail f h s m s (back m l n))
       where
         vs : List ℕ
         vs = trail f s (suc m)
 
         ones : AllByRecursion (λ p. times eqb p.0 (trail f s (suc m)) ≡ 1) L
-        ones = all_ones _ L (every_all _ (λ p. trail_once s (suc m) a n p.0) L) (covered s (suc m) a ∙ sym l)
+        ones = all_ones _ L (every_all _ (λ p. trail_once s (suc m) a n p.0) L) (covered f L s (suc m) (left_once s a (suc m)) ∙ sym l)
 
         one_each : (p : ℕ × ℕ) → times eqb p.0 (trail f s (suc m)) ≡ 1 → h p ≡ sum_of (λ v. cond (eqb v p.0) (h p) 0) (trail f s (suc m))
         one_each p e = sym (sum_picked (λ v. eqb v p.0) (h p) (trail f s (suc m)) ∙ ap (λ n. n * h p) e ∙ one-mul (h p))
@@ -212,7 +266,7 @@ module _ (f : ℕ → ℕ) (L : List (ℕ × ℕ)) (follows : AllByRecursion (λ
 
         steady : (x : ℕ) → 0 < leaving L x → times eqb x (trail f s k) ≡ times eqb (f x) (trail f s k)
         steady x h =
-            sym (sum_every_same (λ v. one_if (eqb (f v) (f x))) (λ v. one_if (eqb v x)) (trail f s k) (every_with _ _ image (trail f s k) (trail_leaving s k a)))
+            sym (sum_every_same (λ v. one_if (eqb (f v) (f x))) (λ v. one_if (eqb v x)) (trail f s k) (every_with _ _ image (trail f s k) (trail_every f (λ v. leaving L v ≡ 1) s k (left_once s a k))))
             ∙ sym (trail_image f (λ v. one_if (eqb v (f x))) s k)
             ∙ omega (arith, trail_turn f (λ v. one_if (eqb v (f x))) s k, ap (λ v. one_if (eqb v (f x))) e)
           where
@@ -243,4 +297,4 @@ module _ (f : ℕ → ℕ) (L : List (ℕ × ℕ)) (follows : AllByRecursion (λ
             ap (λ n. V c + n) (along x xs d (omega arith) ∙ ap (λ v. sum_of (λ r. v) (walk x xs d)) (sym (unlevel (V c) (V x) (omega arith))))
 
         all_b : k ≡ sum_of (λ r. V b) (walk b others b)
-        all_b = sym (covered s k a) ∙ weighs (λ r. V r.0) ∙ along b others b none_unsteady
+        all_b = sym (covered f L s k (left_once s a k)) ∙ weighs (λ r. V r.0) ∙ along b others b none_unsteady

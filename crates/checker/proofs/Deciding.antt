@@ -1,12 +1,25 @@
 -- From what the passes find to the verdict. Assumes nothing.
-use Rattle.std.proofs.Common.{◌≡◌, ℕ, List, Some, None, Option, refl, arith}
+use Rattle.std.proofs.Common.{◌≡◌, ℕ, List, Some, None, Option, arith}
 use Rattle.block.specs.declared.refusal.Refusal.{Refusal}
-use Rattle.block.specs.declared.refusal.Refusal.TheVariants.{BadPart}
-use Rattle.part.specs.Buffer.{triangle_at, count_in, triangles_in}
-use Rattle.checker.specs.Verdict.{Matched, RingedOnce, All, PartsVerdict, SideVerdict}
+use Rattle.theory_parts.specs.Buffer.{triangle_at, count_in, triangles_in}
+use Rattle.checker.specs.Verdict.{Matched, RingedOnce, All, Rule, SideVerdict}
 use Rattle.checker.specs.Verdict.Rule.{fault, passed}
-use Rattle.checker.specs.Verdict.PartsVerdict.{by_first_triangle}
-use Rattle.checker.specs.Passes.{ClosedVerdict, PartsFound}
+use Rattle.checker.specs.Passes.{Checked, ClosedVerdict}
+
+pub some_none : {e : Refusal} → Some e ≡ None → ⊥
+some_none z = let q : ◌≡◌ {A = ℕ} 0 1 = cc in omega arith
+
+module _ (fine : ℕ → Type 0) (n : ℕ) (named : ℕ → Refusal) where
+  -- a pass that names nothing finds all fine, and what it names is the verdict, whatever rule is next
+  pub all_fine : Checked fine n named None → All fine n
+  all_fine (passed a none) = a
+
+  refused : (next : Option Refusal → Type 0) (r : Option Refusal) → Checked fine n named r → (r ≡ None → ⊥) → Rule fine n named next r
+  refused next r (fault f) some = fault f
+  refused next r (passed a none) some = absurd (some none)
+
+  pub named_first : (next : Option Refusal → Type 0) (e : Refusal) → Checked fine n named (Some e) → Rule fine n named next (Some e)
+  named_first next e v = refused next (Some e) v some_none
 
 closed_refused : (ns : List ℕ) (n parts : ℕ) (r : Option Refusal) → ClosedVerdict ns n r → (r ≡ None → ⊥) → SideVerdict ns n parts r
 closed_refused ns n parts r (fault f) some = fault f
@@ -18,14 +31,5 @@ pub closed_none :
     All (λ i. Matched (triangles_in ns) (triangle_at ns i)) (count_in ns) × All (RingedOnce (triangles_in ns)) n
 closed_none ns n (passed a (passed b none)) = (a, b)
 
-pub parts_refused : (ns : List ℕ) (parts i : ℕ) → PartsFound ns parts (Some i) → PartsVerdict ns parts (Some (BadPart i))
-parts_refused ns parts i p = by_first_triangle p.numbered (fault p.found)
-
-pub parts_none : (ns : List ℕ) (parts : ℕ) → PartsFound ns parts None → PartsVerdict ns parts None
-parts_none ns parts p = by_first_triangle p.numbered (passed p.found refl)
-
 pub closed_some : (ns : List ℕ) (n parts : ℕ) (e : Refusal) → ClosedVerdict ns n (Some e) → SideVerdict ns n parts (Some e)
-closed_some ns n parts e v = closed_refused ns n parts (Some e) v some
-  where
-    some : Some e ≡ None → ⊥
-    some z = let q : ◌≡◌ {A = ℕ} 0 1 = cc in omega arith
+closed_some ns n parts e v = closed_refused ns n parts (Some e) v some_none

@@ -1,8 +1,12 @@
 pub mod Verdicts
 mod Reading
 mod Linking
-mod Sides
+mod Counting
 mod Cycles
-mod Rings
+mod Rounds
+mod Around
 pub mod Compared
+mod Tallying
+mod Walking
+mod Chunks
 mod Deciding

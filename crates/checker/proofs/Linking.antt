@@ -6,10 +6,11 @@ use Rattle.std.proofs.lemmas.Bool.{cases_lt, cases_eq, cases_order}
 use Rattle.theory.specs.Triangle.{Tri, tri, has, sum_of}
 use Rattle.theory.specs.Faces.{sum_below}
 use Rattle.theory.proofs.Sums.{sum_below_same}
-use Rattle.part.specs.Buffer.{triangle_at, count_in, triangles_in}
+use Rattle.theory_parts.specs.Buffer.{triangle_at, count_in, triangles_in}
 use Rattle.part.proofs.Places.{OneOf, has_one, one_had}
 use Rattle.checker.specs.Verdict.{Sound}
-use Rattle.checker.specs.Passes.{seen_from, Next, Chained, heads_before, nexts_before, before}
+use Rattle.checker.specs.Chained.{seen_from, Next, Chained, heads_before, nexts_before}
+use Rattle.checker.specs.Passes.{before}
 use Rattle.checker.proofs.Reading.{place_at, place_below}
 
 -- a weight that triangles without c do not have adds up along the chain of c

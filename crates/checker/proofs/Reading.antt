@@ -5,8 +5,8 @@ use Rattle.std.proofs.lemmas.Bool.{cases_Bool, cases_lt, cond_both, or_from, or_
 use Rattle.theory.specs.Triangle.{Tri, tri, one_if, side, has, read_from, corners}
 use Rattle.theory.specs.Closed.{ThreeCorners}
 use Rattle.part.proofs.Places.{one_had}
-use Rattle.checker.specs.declared.Seen.{Seen}
-use Rattle.checker.specs.Passes.{seen_from}
+use Rattle.checker.specs.declared.chains.Seen.{Seen}
+use Rattle.checker.specs.Chained.{seen_from}
 
 -- exactly one of three corners is c
 abbrev pub Which : ℕ → ℕ → ℕ → ℕ → Type 0

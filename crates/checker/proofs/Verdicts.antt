@@ -10,7 +10,7 @@ use Rattle.theory.specs.Closed.{EachSideOnce}
 use Rattle.theory_parts.specs.Parts.{Numbered}
 use Rattle.theory_parts.proofs.Numbering.{only_numbering}
 use Rattle.theory_parts.proofs.Joining.{stands_sum}
-use Rattle.part.specs.Buffer.{triangle_at, part_at, count_in, triangles_in, parts_in}
+use Rattle.theory_parts.specs.Buffer.{triangle_at, part_at, count_in, triangles_in, parts_in}
 use Rattle.part.proofs.Places.{stands_in}
 use Rattle.mesh.specs.Bytes.{corner_count, part_count, triangles_in as numbers_in}
 use Rattle.checker.specs.Verdict.{Sound, Matched, Good, All, First, Rule, PartsVerdict, Verdict, Enough, Answer, OneVerdict, OneAnswer, AcceptedIfGood}

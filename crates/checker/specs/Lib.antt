@@ -1,2 +1,3 @@
+pub mod Chained
 pub mod Verdict
 pub mod Passes

@@ -7,7 +7,7 @@ use Rattle.block.specs.declared.refusal.Refusal.TheVariants.{ShortBuffer, BadTri
 use Rattle.theory.specs.Triangle.{Tri, corners, side, sides, with_corner}
 use Rattle.theory.specs.Closed.{EachSideOnce, ThreeCorners, Ring}
 use Rattle.theory_parts.specs.Parts.{Numbered}
-use Rattle.part.specs.Buffer.{triangle_at, count_in, triangles_in, parts_in}
+use Rattle.theory_parts.specs.Buffer.{triangle_at, count_in, triangles_in, parts_in}
 use Rattle.mesh.specs.Bytes.{corner_count, triangle_count, part_count, length_fault, triangles_in as numbers_in}
 
 -- the numbers of a triangle's corners are below the number of corners, and different

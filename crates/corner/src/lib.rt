@@ -24,7 +24,8 @@ pub fn fraction(inside: u8, outside: u8, threshold: u8) -> u32
     1 + 254 * (2 * above + 1) / (2 * across)
 }
 
-// Writes the corner that lies k 256ths of the way from `inside` to `outside` as number n of a buffer of corners.
+// Writes the corner that lies k 256ths of the way from `inside` to `outside` as number n of a buffer of corners. `k` is a number and no type
+// of its own, which would ask callers for more.
 pub fn write_corner(corners: &mut [u32], n: CornerNumber, inside: Point, outside: Point, k: u32)
     requires { (3 * n.0 + 3 ≤ length corners.old) × (k ≤ 256) }
     ensures written { corners.new ≡ put_corner corners.old n.0 (place_between k inside outside) }
@@ -38,9 +39,11 @@ pub fn write_place(place: &mut [u32], inside: Point, outside: Point, k: u32)
     requires { (length place.old ≡ 3) × (k ≤ 256) }
     ensures written { place.new ≡ coordinates (place_between k inside outside) }
 {
-    place[0] = between(inside.x, outside.x, k);
-    place[1] = between(inside.y, outside.y, k);
-    place[2] = between(inside.z, outside.z, k);
+    place.copy_from_slice(&[
+        between(inside.x, outside.x, k),
+        between(inside.y, outside.y, k),
+        between(inside.z, outside.z, k),
+    ]);
 }
 
 fn between(from: u8, to: u8, k: u32) -> u32

@@ -1,6 +1,5 @@
 -- The lower end of an edge is where its step starts; and there are seven steps, each with one number. Assumes nothing.
-use Rattle.std.proofs.Common.{◌≡◌, ℕ, zero, suc, ◌-◌, ◌<◌, ◌≤◌, Bool, true, false, cond, leb, ◌≢◌, ◌↔◌, Some, None, Option, sym, refl, ap, ◌∙◌, arith}
-use mir.Val.{bool_byte}
+use Rattle.std.proofs.Common.{◌≡◌, ℕ, zero, suc, ◌-◌, ◌<◌, Bool, true, false, cond, leb, ◌≢◌, ◌↔◌, Some, None, Option, sym, refl, ap, ◌∙◌, arith}
 use Rattle.std.proofs.lemmas.Bool.{and_parts, and_from, leb-true, le-leb}
 use Rattle.theory.specs.Grid.{Point, pt, Offset, off, lowest, raised, ◌⊕◌}
 use Rattle.theory.specs.Triangle.{one_if}
@@ -96,14 +95,6 @@ lower (pt u v w) (pt x y z) (off a b c) = (
       let in-z = (back c w z).1 (cc) in
       (some_if _ _ _).1 (and_from _ _ in-x.0 (and_from _ _ in-y.0 in-z.0), λ i. pt (in-x.1 i) (in-y.1 i) (in-z.1 i)),
 )
-
--- one coordinate less the step's, as the code computes it
-pub checked_back : (a : Bool) (u x : ℕ) → (bool_byte a ≤ x) × (u ≡ x - bool_byte a) → x ≡ raised a u
-checked_back false u x h = omega arith
-checked_back true u x h = omega arith
-
-pub lower_found : (o : Offset) (a b c : Bool) (u v w x y z : ℕ) → off a b c ≡ o → x ≡ raised a u → y ≡ raised b v → z ≡ raised c w → Some (pt u v w) ≡ lower_of (pt x y z) o
-lower_found o a b c u v w x y z e ex ey ez = sym ((lower (pt u v w) (pt x y z) o).1 ((λ i. pt (ex i) (ey i) (ez i)) ∙ ap (λ s. pt u v w ⊕ s) e))
 
 pub ends_joined : EndsJoined
 ends_joined = record { lower = lower; stepped = stepped; apart = apart }

@@ -1,20 +1,14 @@
 -- Numbers of points and edges are undone by division, so different ones have different numbers. Assumes nothing.
-use Rattle.std.proofs.Common.{◌≡◌, ℕ, zero, suc, ◌+◌, ◌*◌, ◌/◌, ◌%◌, ◌^◌, ◌<◌, ◌≤◌, ◌↔◌, Some, None, Option, sym, refl, ap, ◌∙◌, subst, arith}
+use Rattle.std.proofs.Common.{◌≡◌, ℕ, zero, suc, ◌+◌, ◌*◌, ◌/◌, ◌%◌, ◌<◌, ◌↔◌, Some, None, Option, sym, refl, ap, ◌∙◌, subst, arith}
 use native.Mathlib.Nat.{mod-add-div}
 use Rattle.std.specs.Option.{option_zip}
-use Rattle.std.proofs.lemmas.Nat.{mul-le, mul-add-lt, div-mul-add, mod-mul-add, div_below, mod_below}
+use Rattle.std.proofs.lemmas.Nat.{mul-add-lt, div-mul-add, mod-mul-add, div_below, mod_below}
 use Rattle.std.proofs.lemmas.Bool.{lt-ltb, ltb-true}
 use Rattle.theory.specs.Grid.{Point, pt}
 use Rattle.grid.specs.declared.edge.Step.{Step}
 use Rattle.grid.specs.Places.{step_in, step_number}
 use Rattle.grid.specs.Numbers.{number_of, point_of, point_in, edge_number, edge_in, Within, PointsNumbered, EdgesNumbered}
 use Rattle.grid.proofs.Ends.{some_injective, some_if, step_number_below, step_found, step_undone}
-
-pub number_bound : (a b x y z : ℕ) → a ≤ 255 → b ≤ 255 → x ≤ 255 → y ≤ 255 → z ≤ 255 → x + a * (y + b * z) < 2 ^ 24
-number_bound a b x y z ha hb hx hy hz =
-    let layers : b * z ≤ 255 * 255 = mul-le b z 255 255 hb hz in
-    let rows : a * (y + b * z) ≤ 255 * (255 + 255 * 255) = mul-le a (y + b * z) 255 (255 + 255 * 255) ha (omega arith) in
-    omega arith
 
 -- a point's number ends before the number of points
 number_below : (a b c : ℕ) (p : Point) → Within a b c p → number_of a b p < a * (b * c)
@@ -33,7 +27,7 @@ point_found a b c (pt x y z) h =
     let e : (x + a * (y + b * z)) / a ≡ y + b * z = other_digits x a (y + b * z) h.0 in
     λ i. pt (first_digit x a (y + b * z) h.0 i) ((ap (λ m. m % b) e ∙ first_digit y b z h.1) i) ((ap (λ m. m / b) e ∙ other_digits y b z h.1) i)
 
-pub layer_below : (a b c n : ℕ) → 0 < a → 0 < b → n < a * (b * c) → n / a / b < c
+layer_below : (a b c n : ℕ) → 0 < a → 0 < b → n < a * (b * c) → n / a / b < c
 layer_below a b c n ha hb h =
     let rows : n / a < b * c = div_below n a (b * c) ha (omega arith) in
     div_below (n / a) b c hb (omega arith)

@@ -1,8 +1,11 @@
 // Points, the seven steps from a point to a higher one beside it, and edges, each by its upper end and the step that leads there.
-ghost use Rattle.std.specs.Prelude.{◌≡◌};
-ghost use Rattle.std.specs.Option.{option_map};
+ghost use Rattle.std.specs.Prelude.{◌≡◌, ◌++◌, Some, codes, decimal};
+ghost use Rattle.std.specs.Option.{option_map, ok_or};
 ghost use Rattle.theory.specs.Grid.{off};
 ghost use Rattle.grid.specs.Places.{at, step_number, step_in, offset_of, lower_of};
+
+use std::error::Error;
+use std::fmt;
 
 // A point of the grid, by its places along x, y and z.
 #[derive(Clone, Copy, PartialEq, Eq, Debug)]
@@ -24,6 +27,10 @@ pub enum Step {
     Yz = 5,
     Xyz = 6,
 }
+
+// A number that no step has.
+#[derive(Clone, Copy, PartialEq, Eq, Debug)]
+pub struct UnknownStep(pub u8);
 
 // An edge of the grid. It goes by its upper end, since the cube whose highest point that is comes first of all the cubes that have the edge.
 #[derive(Clone, Copy, PartialEq, Eq, Debug)]
@@ -54,30 +61,37 @@ impl Edge {
     }
 }
 
-impl Step {
-    // Its number of 0 to 6.
-    pub fn number(self) -> u8
-        ensures value { result ≡ step_number self }
-    {
-        self as u8
-    }
+// The number of a step, of 0 to 6.
+impl From<Step> for u8 {
+    ghost from_gives = { λ step number. number ≡ step_number step };
 
-    // The step of this number; None from 7 on.
-    pub fn from_number(number: u8) -> Option<Step>
-        ensures value { result ≡ step_in number }
-    {
+    fn from(step: Step) -> u8 {
+        step as u8
+    }
+}
+
+// The step of a number; an error from 7 on.
+impl TryFrom<u8> for Step {
+    type Error = UnknownStep;
+
+    ghost try_from_gives = { λ number step. step ≡ ok_or (step_in number) (record { 0 = number }) };
+
+    // By a match: no cast leads from a number to a variant.
+    fn try_from(number: u8) -> Result<Step, UnknownStep> {
         match number {
-            0 => Some(Step::X),
-            1 => Some(Step::Y),
-            2 => Some(Step::Z),
-            3 => Some(Step::Xy),
-            4 => Some(Step::Xz),
-            5 => Some(Step::Yz),
-            6 => Some(Step::Xyz),
-            _ => None,
+            0 => Ok(Step::X),
+            1 => Ok(Step::Y),
+            2 => Ok(Step::Z),
+            3 => Ok(Step::Xy),
+            4 => Ok(Step::Xz),
+            5 => Ok(Step::Yz),
+            6 => Ok(Step::Xyz),
+            _ => Err(UnknownStep(number)),
         }
     }
+}
 
+impl Step {
     fn axes(self) -> Axes
         ensures value { off result.x result.y result.z ≡ offset_of self }
     {
@@ -93,3 +107,14 @@ impl Step {
         Axes { x, y, z }
     }
 }
+
+impl fmt::Display for UnknownStep {
+    ghost output = { λ e. Some (codes "no step has the number " ++ decimal e.0) };
+
+    fn fmt<W: fmt::Write>(&self, f: &mut fmt::Formatter<W>) -> fmt::Result {
+        let number = self.0;
+        write!(f, "no step has the number {number}")
+    }
+}
+
+impl Error for UnknownStep {}

@@ -8,7 +8,7 @@ ghost use Rattle.grid.specs.Numbers.{sized, number_of, point_in, edge_number, ed
 
 mod edge;
 
-pub use edge::{Edge, Point, Step};
+pub use edge::{Edge, Point, Step, UnknownStep};
 
 // The number of a point, and the number of an edge: two sorts of number, which cannot be taken for one another.
 #[derive(Clone, Copy, PartialEq, Eq, Debug)]
@@ -33,7 +33,7 @@ impl Grid {
     pub fn new(a: u8, b: u8, c: u8) -> Option<Grid>
         ensures value { option_map (λ g. (g.a, g.b, g.c)) result ≡ sized a b c }
     {
-        if a == 0 || b == 0 || c == 0 {
+        if [a, b, c].contains(&0) {
             return None;
         }
         Some(Grid { a, b, c })
@@ -72,7 +72,7 @@ impl Grid {
         ensures value { result.0 ≡ edge_number self.now.a self.now.b (rise e) }
         ensures bound { result.0 < 2 ^ 27 }
     {
-        EdgeNumber(7 * self.point_number(e.upper).0 + e.step.number() as u32)
+        EdgeNumber(7 * self.point_number(e.upper).0 + u32::from(u8::from(e.step)))
     }
 
     // The edge that has this number; None from seven times the number of points on.
@@ -80,7 +80,7 @@ impl Grid {
         ensures value { option_map rise result ≡ edge_in self.now.a self.now.b self.now.c n.0 }
     {
         let upper = self.point(PointNumber(n.0 / 7))?;
-        let step = Step::from_number((n.0 % 7) as u8)?;
+        let step = Step::try_from((n.0 % 7) as u8).ok()?;
         Some(Edge { upper, step })
     }
 }

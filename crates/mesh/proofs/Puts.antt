@@ -1,8 +1,8 @@
 -- A buffer that is filled from the front, by numbers of which each takes a few bytes: what it holds after one more part. Assumes nothing.
-use Rattle.std.proofs.Common.{◌≡◌, ℕ, ◌+◌, ◌*◌, ◌≤◌, List, [], ◌∷◌, ◌++◌, length, get_or, take, drop, sym, refl, ap, ◌∙◌, ap₂, mul-zero, mul-suc, arith, length-append}
+use Rattle.std.proofs.Common.{◌≡◌, ℕ, ◌+◌, ◌*◌, ◌≤◌, List, [], ◌∷◌, ◌++◌, length, take, drop, sym, refl, ap, ◌∙◌, ap₂, mul-zero, mul-suc, arith, length-append}
 use borrow.Rule.Slice.PartMut.{put_mid}
 use Rattle.std.specs.List.{flat_map}
-use Rattle.std.proofs.lemmas.List.{append_assoc, append-nil, take-append-drop, take_at, drop_at, drop-drop, drop_all, take_more, take_all, length-take-le}
+use Rattle.std.proofs.lemmas.List.{append_assoc, take-append-drop, take_at, drop_at, drop-drop}
 use Rattle.std.proofs.lemmas.Slice.{take-put_mid, drop-put_mid}
 
 -- a part is written behind a front that is done, and the rest is as it was
@@ -28,29 +28,3 @@ module _ (f : ℕ → List ℕ) where
   pub length_joined : (w : ℕ) → ((x : ℕ) → length (f x) ≡ w) → (xs : List ℕ) → length (flat_map f xs) ≡ w * length xs
   length_joined w e [] = sym (mul-zero w)
   length_joined w e (x ∷ xs) = omega (arith, length-append (f x) (flat_map f xs), e x, length_joined w e xs, mul-suc w (length xs))
-
-  pub length_joined_take : (w : ℕ) → ((x : ℕ) → length (f x) ≡ w) → (xs : List ℕ) (i : ℕ) → i ≤ length xs → length (flat_map f (take i xs)) ≡ w * i
-  length_joined_take w e xs i l = length_joined w e (take i xs) ∙ ap (λ n. w * n) (length-take-le i xs l)
-
-  -- the next number, the next three and the next four, behind those before them
-  pub joined_next : (xs : List ℕ) (i j : ℕ) → j ≡ i + 1 → j ≤ length xs → flat_map f (take j xs) ≡ flat_map f (take i xs) ++ f (get_or xs i 0)
-  joined_next xs i j e l =
-      ap (λ n. flat_map f (take n xs)) e
-      ∙ ap (flat_map f) (take_more xs i 0 (omega arith))
-      ∙ joined_append (take i xs) (get_or xs i 0 ∷ [])
-      ∙ ap (λ zs. flat_map f (take i xs) ++ zs) (append-nil (f (get_or xs i 0)))
-
-  pub joined_three : (xs : List ℕ) (i j : ℕ) → j ≡ i + 3 → j ≤ length xs → flat_map f (take j xs) ≡ flat_map f (take i xs) ++ (f (get_or xs i 0) ++ (f (get_or xs (i + 1) 0) ++ f (get_or xs (i + 2) 0)))
-  joined_three xs i j e l =
-      joined_next xs (i + 2) j (omega arith) l
-      ∙ ap (λ s. s ++ f (get_or xs (i + 2) 0)) (joined_next xs (i + 1) (i + 2) (omega arith) (omega arith) ∙ ap (λ s. s ++ f (get_or xs (i + 1) 0)) (joined_next xs i (i + 1) refl (omega arith)))
-      ∙ simp append_assoc
-
-  pub joined_four : (xs : List ℕ) (i j : ℕ) → j ≡ i + 4 → j ≤ length xs → flat_map f (take j xs) ≡ flat_map f (take i xs) ++ (f (get_or xs i 0) ++ (f (get_or xs (i + 1) 0) ++ (f (get_or xs (i + 2) 0) ++ f (get_or xs (i + 3) 0))))
-  joined_four xs i j e l =
-      joined_next xs (i + 3) j (omega arith) l
-      ∙ ap (λ s. s ++ f (get_or xs (i + 3) 0)) (joined_three xs i (i + 3) refl (omega arith))
-      ∙ simp append_assoc
-
-  pub joined_all : (xs old : List ℕ) (i a : ℕ) → length xs ≤ i → length old ≤ a → flat_map f (take i xs) ++ drop a old ≡ flat_map f xs
-  joined_all xs old i a l m = ap₂ (λ s t. flat_map f s ++ t) (take_all i xs l) (drop_all a old m) ∙ append-nil (flat_map f xs)

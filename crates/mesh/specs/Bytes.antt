@@ -55,3 +55,9 @@ pub record Counted (bs : List ℕ) (corners triangles parts : ℕ) : Type 0 wher
   pub corners_are : corners ≡ corner_count bs
   pub triangles_are : triangles ≡ triangle_count bs
   pub parts_are : parts ≡ part_count bs
+
+-- the header that the first bytes say, whether or not they are a skin's
+pub record Said (bs : List ℕ) (corners triangles parts : ℕ) : Type 0 where
+  pub corners_are : corners ≡ corner_count bs
+  pub triangles_are : triangles ≡ triangle_count bs
+  pub parts_are : parts ≡ part_count bs

@@ -1,6 +1,6 @@
 -- The printer's bytes of a skin, as they are written: which bytes, where there is room for them, and that reading undoes writing and
 -- writing undoes reading. Assumes nothing.
-use Rattle.std.specs.Prelude.{◌≡◌, ℕ, ◌+◌, ◌*◌, ◌/◌, ◌%◌, ◌^◌, ◌<◌, Bool, true, cond, ◌&&◌, List, [], ◌∷◌, ◌++◌, length, drop, Some, None, Option, ◌==◌, nat_le, nat_lt}
+use Rattle.std.specs.Prelude.{◌≡◌, ℕ, ◌+◌, ◌*◌, ◌/◌, ◌%◌, ◌^◌, ◌<◌, Bool, true, cond, ◌&&◌, List, [], ◌∷◌, ◌++◌, length, take, drop, Some, None, Option, ◌==◌, nat_le, nat_lt}
 use Rattle.std.specs.List.{flat_map, AllByRecursion}
 use Rattle.mesh.specs.Bytes.{corner_count, triangle_count, part_count, coordinates_in, triangles_in, length_fault}
 
@@ -10,6 +10,10 @@ two_bytes n = n % 256 ∷ n / 256 % 256 ∷ []
 
 abbrev pub four_bytes : ℕ → List ℕ
 four_bytes n = n % 256 ∷ n / 256 % 256 ∷ n / 65536 % 256 ∷ n / 16777216 % 256 ∷ []
+
+-- so many of the four, the low ones
+abbrev pub low_bytes : ℕ → ℕ → List ℕ
+low_bytes n number = take n (four_bytes number)
 
 -- the header, one corner and one triangle
 abbrev pub header_bytes : ℕ → ℕ → ℕ → List ℕ

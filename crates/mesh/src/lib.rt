@@ -1,10 +1,10 @@
-// A skin as the printer's bytes: read, a number at a time, and written, at once or as one goes.
+// A skin as the printer's bytes: read, a number at a time, and written, at once or as one goes, from and to flat buffers of the caller's.
 #![tactic(auto)]
 
-ghost use Rattle.std.specs.Prelude.{◌≡◌, ◌+◌, ◌*◌, ◌%◌, ◌^◌, ◌<◌, true, length, take, IfSome, Some, None, MatchResult, slice_index};
+ghost use Rattle.std.specs.Prelude.{◌≡◌, ℕ, ◌+◌, ◌*◌, ◌^◌, ◌<◌, ◌≤◌, length, take, IfSome, Some, None, MatchResult, slice_index};
 ghost use Rattle.std.specs.List.{flat_map};
-ghost use Rattle.mesh.specs.Bytes.{bytes_in, short_at, number_at, corner_count, triangle_count, part_count, coordinates_in, triangles_in, length_fault, Counted};
-ghost use Rattle.mesh.specs.Written.{two_bytes, four_bytes, header_bytes, corner_bytes, triangle_bytes, all_below, writable, written, buffer_after, Holds, Taken, ReadBack, WrittenBack};
+ghost use Rattle.mesh.specs.Bytes.{bytes_in, short_at, number_at, corner_count, triangle_count, part_count, coordinates_in, triangles_in, length_fault, Counted, Said};
+ghost use Rattle.mesh.specs.Written.{low_bytes, header_bytes, corner_bytes, triangle_bytes, all_below, writable, written, buffer_after, Holds, Taken, ReadBack, WrittenBack};
 
 use block::Refusal;
 
@@ -27,24 +27,30 @@ impl Header {
     pub fn read(bytes: &[u8]) -> Result<Header, Refusal>
         ensures cases { MatchResult result (λ h. Counted bytes.now h.corners h.triangles h.parts) (λ e. length_fault bytes.now ≡ Some e) }
     {
-        if bytes.len() < HEADER {
-            return Err(Refusal::WrongLength(bytes.len()));
+        let header = Header::said_in(bytes);
+        let end = header.behind_corners() + 16 * header.triangles as usize;
+        if bytes.len() != end {
+            return Err(Refusal::WrongLength(bytes.len().min(end)));
         }
-        let corners = number(bytes, 0);
-        let triangles = number(bytes, 4);
-        let parts = number(bytes, 8);
-        let end = HEADER + (6 * corners as usize + 16 * triangles as usize);
-        if bytes.len() < end {
-            return Err(Refusal::WrongLength(bytes.len()));
+        Ok(header)
+    }
+
+    // What the first bytes say, right or wrong.
+    fn said_in(bytes: &[u8]) -> Header
+        ensures { Said bytes.now result.corners result.triangles result.parts }
+    {
+        Header {
+            corners: number(bytes, 0),
+            triangles: number(bytes, 4),
+            parts: number(bytes, 8),
         }
-        if end < bytes.len() {
-            return Err(Refusal::WrongLength(end));
-        }
-        Ok(Header {
-            corners,
-            triangles,
-            parts,
-        })
+    }
+
+    // Where the triangles begin.
+    fn behind_corners(&self) -> usize
+        ensures { result ≡ 12 + 6 * self.now.corners }
+    {
+        HEADER + 6 * self.corners as usize
     }
 }
 
@@ -67,21 +73,21 @@ impl<'a> Skin<'a> {
     pub fn corners(&self) -> u32
         ensures value { result ≡ corner_count (bytes_in self.entry) }
     {
-        number(self.bytes, 0)
+        self.header().corners
     }
 
     // How many triangles there are.
     pub fn triangles(&self) -> u32
         ensures value { result ≡ triangle_count (bytes_in self.entry) }
     {
-        number(self.bytes, 4)
+        self.header().triangles
     }
 
     // How many parts there are.
     pub fn parts(&self) -> u32
         ensures value { result ≡ part_count (bytes_in self.entry) }
     {
-        number(self.bytes, 8)
+        self.header().parts
     }
 
     // A coordinate, of which each corner has three; 0 past the last. Constant time.
@@ -89,7 +95,7 @@ impl<'a> Skin<'a> {
         ensures value { result ≡ slice_index (coordinates_in (bytes_in self.entry)) i }
     {
         if i < 3 * self.corners() as usize {
-            short(self.bytes, HEADER + 2 * i)
+            u32::from(short(self.bytes, HEADER + 2 * i))
         } else {
             0
         }
@@ -100,10 +106,27 @@ impl<'a> Skin<'a> {
         ensures value { result ≡ slice_index (triangles_in (bytes_in self.entry)) i }
     {
         if i < 4 * self.triangles() as usize {
-            number(self.bytes, HEADER + 6 * self.corners() as usize + 4 * i)
+            number(self.bytes, self.header().behind_corners() + 4 * i)
         } else {
             0
         }
+    }
+
+    // Copies the numbers of all triangles into a buffer of just that length. Linear time.
+    pub fn copy_numbers(&self, numbers: &mut [u32])
+        requires { length numbers.old ≡ 4 * triangle_count (bytes_in self) }
+        ensures after { numbers.new ≡ triangles_in (bytes_in self.entry) }
+    {
+        let from = self.header().behind_corners();
+        for (i, copy) in numbers.iter_mut().enumerate() {
+            *copy = number(self.bytes, from + 4 * i);
+        }
+    }
+
+    fn header(&self) -> Header
+        ensures { Said (bytes_in self.entry) result.corners result.triangles result.parts }
+    {
+        Header::said_in(self.bytes)
     }
 }
 
@@ -126,8 +149,8 @@ pub fn write(corners: &[u32], triangles: &[u32], parts: u32, out: &mut [u8]) -> 
     let corner_end = HEADER + 2 * corners.len();
     let end = corner_end + 4 * triangles.len();
     out[0..HEADER].copy_from_slice(&header);
-    put_corners(corners, &mut out[HEADER..corner_end]);
-    put_triangles(triangles, &mut out[corner_end..end]);
+    put_low_bytes::<2>(corners, &mut out[HEADER..corner_end]);
+    put_low_bytes::<4>(triangles, &mut out[corner_end..end]);
     Some(end)
 }
 
@@ -135,33 +158,21 @@ pub fn write(corners: &[u32], triangles: &[u32], parts: u32, out: &mut [u8]) -> 
 pub fn header_bytes(corners: u32, triangles: u32, parts: u32) -> [u8; 12]
     ensures value { result ≡ header_bytes corners triangles parts }
 {
-    let [c0, c1, c2, c3] = corners.to_le_bytes();
-    let [t0, t1, t2, t3] = triangles.to_le_bytes();
-    let [p0, p1, p2, p3] = parts.to_le_bytes();
-    [c0, c1, c2, c3, t0, t1, t2, t3, p0, p1, p2, p3]
+    joined([corners, triangles, parts].map(u32::to_le_bytes))
 }
 
 // The bytes of a corner.
 pub fn corner_bytes(x: u16, y: u16, z: u16) -> [u8; 6]
     ensures value { result ≡ corner_bytes x y z }
 {
-    let [x0, x1] = x.to_le_bytes();
-    let [y0, y1] = y.to_le_bytes();
-    let [z0, z1] = z.to_le_bytes();
-    [x0, x1, y0, y1, z0, z1]
+    joined([x, y, z].map(u16::to_le_bytes))
 }
 
 // The bytes of a triangle, by its corners' numbers and its part's.
 pub fn triangle_bytes(a: u32, b: u32, c: u32, part: u32) -> [u8; 16]
     ensures value { result ≡ triangle_bytes a b c part }
 {
-    let [a0, a1, a2, a3] = a.to_le_bytes();
-    let [b0, b1, b2, b3] = b.to_le_bytes();
-    let [c0, c1, c2, c3] = c.to_le_bytes();
-    let [p0, p1, p2, p3] = part.to_le_bytes();
-    [
-        a0, a1, a2, a3, b0, b1, b2, b3, c0, c1, c2, c3, p0, p1, p2, p3,
-    ]
+    joined([a, b, c, part].map(u32::to_le_bytes))
 }
 
 // What was written is read back: a skin whose numbers are in range is in its bytes.
@@ -191,80 +202,62 @@ fn writable(corners: &[u32], triangles: &[u32], room: usize) -> bool
 }
 
 fn all_short(coordinates: &[u32]) -> bool
-    ensures value { result ≡ all_below 65536 coordinates.now }
+    ensures { result ≡ all_below 65536 coordinates.now }
 {
-    for x in coordinates {
-        if *x >= 65536 {
-            return false;
-        }
-    }
-    true
+    coordinates.iter().all(|x| *x < 65536)
 }
 
-fn put_corners(corners: &[u32], out: &mut [u8])
-    requires whole { length corners.now % 3 ≡ 0 }
-    requires short { all_below 65536 corners.now ≡ true }
-    requires room { length out.old ≡ 2 * length corners.now }
-    ensures after { out.new ≡ flat_map two_bytes corners.now }
+// The bytes of some numbers, one number after the other.
+fn joined<const WIDTH: usize, const COUNT: usize, const LENGTH: usize>(
+    numbers: [[u8; WIDTH]; COUNT],
+) -> [u8; LENGTH]
+    requires { COUNT * WIDTH ≡ LENGTH }
+    ensures { result ≡ flat_map (λ bytes. bytes) numbers.entry }
 {
-    for i in 0..corners.len() / 3 {
-        let corner = corner_bytes(
-            corners[3 * i] as u16,
-            corners[3 * i + 1] as u16,
-            corners[3 * i + 2] as u16,
-        );
-        out[6 * i..6 * i + 6].copy_from_slice(&corner);
-    }
+    let mut bytes = [0; LENGTH];
+    bytes.copy_from_slice(numbers.as_flattened());
+    bytes
 }
 
-fn put_triangles(triangles: &[u32], out: &mut [u8])
-    requires whole { length triangles.now % 4 ≡ 0 }
-    requires room { length out.old ≡ 4 * length triangles.now }
-    ensures after { out.new ≡ flat_map four_bytes triangles.now }
+// Writes the N low bytes of each number, the lowest first; by places, since nothing is known of what is written through
+// `chunks_exact_mut`.
+fn put_low_bytes<const N: usize>(numbers: &[u32], out: &mut [u8])
+    requires few { N ≤ 4 }
+    requires room { length out.old ≡ N * length numbers.now }
+    ensures after { out.new ≡ flat_map (low_bytes N) numbers.now }
 {
-    for i in 0..triangles.len() / 4 {
-        let triangle = triangle_bytes(
-            triangles[4 * i],
-            triangles[4 * i + 1],
-            triangles[4 * i + 2],
-            triangles[4 * i + 3],
-        );
-        out[16 * i..16 * i + 16].copy_from_slice(&triangle);
+    for (i, number) in numbers.iter().enumerate() {
+        out[N * i..N * i + N].copy_from_slice(&number.to_le_bytes()[..N]);
     }
 }
 
-// The number in four bytes, the low byte first; a byte that is not there counts as 0. Most often all are there, and one test serves.
+// The number in four bytes, the low byte first.
 fn number(bytes: &[u8], at: usize) -> u32
-    requires { at + 3 < 2 ^ 64 }
+    requires { at + 4 < 2 ^ 64 }
     ensures value { result ≡ number_at bytes.now at }
 {
-    if at + 3 < bytes.len() {
-        bytes[at] as u32
-            + 256
-                * (bytes[at + 1] as u32 + 256 * (bytes[at + 2] as u32 + 256 * bytes[at + 3] as u32))
-    } else {
-        short(bytes, at) + 65536 * byte(bytes, at + 2)
-    }
+    u32::from_le_bytes(bytes_at(bytes, at))
 }
 
 // The number in two bytes, likewise.
-fn short(bytes: &[u8], at: usize) -> u32
-    requires { at + 1 < 2 ^ 64 }
+fn short(bytes: &[u8], at: usize) -> u16
+    requires { at + 2 < 2 ^ 64 }
     ensures value { result ≡ short_at bytes.now at }
-    ensures bound { result < 65536 }
 {
-    byte(bytes, at) + 256 * byte(bytes, at + 1)
+    u16::from_le_bytes(bytes_at(bytes, at))
 }
 
-fn byte(bytes: &[u8], at: usize) -> u32
-    ensures value { result ≡ slice_index bytes.now at }
-    ensures bound { result < 256 }
+// The N bytes from a place on; one that is not there counts as 0. A loop, since `array::from_fn` leaves open in which state it calls its
+// closure.
+fn bytes_at<const N: usize>(bytes: &[u8], at: usize) -> [u8; N]
+    requires { at + N < 2 ^ 64 }
+    ensures value { (k : ℕ) → k < N → slice_index result k ≡ slice_index bytes.now (at + k) }
 {
-    if at < bytes.len() {
-        bytes[at] as u32
-    } else {
-        0
+    let mut found = [0; N];
+    for (k, byte) in found.iter_mut().enumerate() {
+        *byte = bytes.get(at + k).copied().unwrap_or(0);
     }
+    found
 }
 
 #[cfg(test)]
@@ -288,20 +281,18 @@ mod tests {
     fn a_tetrahedron_is_written(rt: HostRuntime) {
         let mut out = [7; 101];
         assert_eq!(rt; write(&CORNERS, &TRIANGLES, 1, &mut out), Some(100));
-        for i in 0..100 {
-            assert_eq!(rt; out[i], BYTES[i]);
-        }
+        assert_eq!(rt; &out[0..100], BYTES.as_slice());
         assert_eq!(rt; out[100], 7);
     }
 
     #[test]
     fn a_tetrahedron_is_read(rt: HostRuntime) -> Result<(), Fail> {
         let skin = Skin::read(&BYTES)?;
-        for i in 0..12 {
-            assert_eq!(rt; skin.coordinate(i), CORNERS[i]);
+        for (i, x) in CORNERS.iter().enumerate() {
+            assert_eq!(rt; skin.coordinate(i), *x);
         }
-        for i in 0..16 {
-            assert_eq!(rt; skin.number(i), TRIANGLES[i]);
+        for (i, number) in TRIANGLES.iter().enumerate() {
+            assert_eq!(rt; skin.number(i), *number);
         }
         assert_eq!(rt; (skin.corners(), skin.triangles(), skin.parts()), (4, 4, 1));
         assert_eq!(rt; (skin.coordinate(12), skin.number(16)), (0, 0));

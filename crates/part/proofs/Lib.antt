@@ -5,3 +5,4 @@ pub mod Laws
 mod Spokes
 mod Turns
 mod Written
+mod Chunks

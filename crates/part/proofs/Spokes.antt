@@ -1,14 +1,13 @@
 -- The spokes of triangles, from the first corner to the second and the third, connect what the triangles link. Assumes nothing.
-use Rattle.std.proofs.Common.{◌≡◌, ℕ, ◌+◌, ◌*◌, ◌<◌, eqb, List, get_or, sym, refl, ap, ◌∙◌, subst, inl, inr, arith}
+use Rattle.std.proofs.Common.{◌≡◌, ℕ, ◌+◌, ◌*◌, ◌<◌, eqb, List, length, get_or, sym, refl, ap, ◌∙◌, subst, inl, inr, arith}
 use mathlib.Core.Logic.Iff
 use Rattle.std.proofs.lemmas.Bool.{cases_lt}
 use Rattle.theory.specs.Triangle.{has}
 use Rattle.theory_parts.specs.Parts.{Connected, step, back, onward, ShareTriangle}
-use Rattle.part.specs.Forest.{Forest, Alone, Flat, Link, Alike}
-use Rattle.part.specs.Buffer.{triangle_at, count_in, triangles_in}
-use Rattle.part.specs.Passes.{Spoke, PlusSpokes, Rooted}
+use Rattle.part.specs.Forest.{Forest, Alone, Link, Plus, Alike, Tells}
+use Rattle.theory_parts.specs.Buffer.{triangle_at, count_in, triangles_in}
+use Rattle.part.specs.Passes.{Spoke, Told}
 use Rattle.part.proofs.Connection.{connected_same, alike_trans, alike_tells}
-use Rattle.part.proofs.Trees.{flat_tells}
 use Rattle.part.proofs.Places.{stands_in, in_stands, has_one, one_had}
 
 pub alone_forest : (p : List ℕ) → Alone p → Forest p
@@ -22,7 +21,7 @@ no_spokes ns p alone =
     }
 
 -- one more triangle has two more spokes
-pub spokes_more : (ns : List ℕ) (n : ℕ) → Alike (PlusSpokes ns n (Spoke ns n)) (Spoke ns (n + 1))
+pub spokes_more : (ns : List ℕ) (n : ℕ) → Alike (Plus (Plus (Spoke ns n) (get_or ns (4 * n) 0) (get_or ns (4 * n + 1) 0)) (get_or ns (4 * n) 0) (get_or ns (4 * n + 2) 0)) (Spoke ns (n + 1))
 spokes_more ns n =
     record {
       there = λ c d. elim [
@@ -68,10 +67,10 @@ module _ (ns : List ℕ) where
             (spoke_to s.place r.0 d (subst (λ t. 0 < has eqb d t) (sym r.1) s.has_d));
       }
 
-  -- flat trees that connect what the spokes do have the roots of linked corners
-  pub rooted : (p : List ℕ) → Forest p → Flat p → Alike (Link p) (Spoke ns (count_in ns)) → Rooted ns p
-  rooted p forest flat alike =
+  -- numbers of trees that connect what the spokes do tell linked corners
+  pub told : (p numbers : List ℕ) → length numbers ≡ length p → Tells p numbers → Alike (Link p) (Spoke ns (count_in ns)) → Told ns numbers
+  told p numbers long t alike =
       record {
-        below = λ a l. omega (arith, forest a l);
-        tells = λ a b l m. Iff.trans (flat_tells p a b flat l m) (alike_tells (alike_trans alike spokes_share));
+        below = λ a l. omega (arith, t.below a (omega arith));
+        tells = λ a b l m. Iff.trans (t.tells a b (omega arith) (omega arith)) (alike_tells (alike_trans alike spokes_share));
       }

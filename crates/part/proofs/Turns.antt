@@ -6,7 +6,7 @@ use Rattle.std.proofs.lemmas.List.{get_or-set_same, get_or-set_other, get_or-rep
 use Rattle.std.proofs.lemmas.Bool.{cases_eq, cases_Bool, cond_both, eqb-true, eqb-false, lt-ltb}
 use Rattle.theory.specs.Triangle.{sum_of, one_if}
 use Rattle.theory_parts.specs.Parts.{InTurn}
-use Rattle.part.specs.Buffer.{part_at, count_in}
+use Rattle.theory_parts.specs.Buffer.{part_at, count_in, first_parts}
 use Rattle.part.specs.Passes.{SameCorners, PartsBelow, SameParts, no_number, given_at}
 
 -- 1 for the number of a root that has one
@@ -113,12 +113,12 @@ module _ (m : List ℕ) (n r : ℕ) (g : Given m n) (l : r < length m) (small : 
   given_long : length (given_at m r n) ≡ length m
   given_long = cond_both (eqb (get_or m r 0) no_number) (set m r n) m (λ k. length k ≡ length m) (λ e. length-set m r n) (λ e. refl)
 
-in_turn_old : (k : ℕ) (ps : List ℕ) (n p : ℕ) → InTurn k ps n → p < n → InTurn k (ps ++ p ∷ []) n
+pub in_turn_old : (k : ℕ) (ps : List ℕ) (n p : ℕ) → InTurn k ps n → p < n → InTurn k (ps ++ p ∷ []) n
 in_turn_old k [] n p t l = inl (omega arith, t)
 in_turn_old k (q ∷ ps) n p (inl t) l = inl (t.0, in_turn_old k ps n p t.1 l)
 in_turn_old k (q ∷ ps) n p (inr t) l = inr (t.0, in_turn_old (suc k) ps n p t.1 l)
 
-in_turn_new : (k : ℕ) (ps : List ℕ) (n p : ℕ) → InTurn k ps n → p ≡ n → InTurn k (ps ++ p ∷ []) (n + 1)
+pub in_turn_new : (k : ℕ) (ps : List ℕ) (n p : ℕ) → InTurn k ps n → p ≡ n → InTurn k (ps ++ p ∷ []) (n + 1)
 in_turn_new k [] n p t e = inr (e ∙ sym t, omega arith)
 in_turn_new k (q ∷ ps) n p (inl t) e = inl (t.0, in_turn_new k ps n p t.1 e)
 in_turn_new k (q ∷ ps) n p (inr t) e = inr (t.0, in_turn_new (suc k) ps n p t.1 e)
@@ -127,6 +127,13 @@ pub map_counting_same :
     {X : Type 0} (f g : ℕ → X) (a n : ℕ) → ((k : ℕ) → k < a + n → f k ≡ g k) → map f (range_with_len a n) ≡ map g (range_with_len a n)
 map_counting_same f g a zero e = refl
 map_counting_same f g a (suc n) e = ap₂ ◌∷◌ (e a (omega arith)) (map_counting_same f g (a + 1) n (λ k l. e k (omega arith)))
+
+pub first_parts_set :
+    (ms : List ℕ) (i x : ℕ) → i < count_in ms → first_parts (set ms (4 * i + 3) x) (i + 1) ≡ first_parts ms i ++ x ∷ []
+first_parts_set ms i x l =
+    map-range_with_len_more (part_at (set ms (4 * i + 3) x)) 0 i i (omega arith)
+    ∙ ap₂ (λ ps p. ps ++ p ∷ []) (map_counting_same _ _ 0 i (λ k h. get_or-set_other ms (4 * i + 3) (4 * k + 3) x 0 (omega arith)))
+    (get_or-set_same ms (4 * i + 3) x 0 (omega arith))
 
 -- The triangles ms before the place i have the numbers that m gives to their roots in ns; the others still have their roots.
 pub record Turn (ns ms m : List ℕ) (n i : ℕ) : Type 0 where
@@ -183,9 +190,7 @@ module _
             (ap (λ y. get_or m' y 0) (sym (t.ahead i (omega arith))) ∙ sym now ∙ sym here);
         started = below_more (λ k. part_at (set ms (4 * i + 3) x) k < n') i
             (λ k h. omega (arith, kept k (omega arith), t.started k h)) (omega (arith, here));
-        in_turn = subst (λ ps. InTurn 0 ps n')
-            (sym (map-range_with_len_more (part_at (set ms (4 * i + 3) x)) 0 i i (omega arith)
-            ∙ ap₂ (λ ps p. ps ++ p ∷ []) (map_counting_same _ _ 0 i (λ k h. kept k (omega arith))) here)) turn;
+        in_turn = subst (λ ps. InTurn 0 ps n') (sym (first_parts_set ms i x (omega arith))) turn;
       }
 
   pub turn_old : x ≢ n → Turn ns (set ms (4 * i + 3) x) m' n (i + 1)

@@ -1,6 +1,6 @@
 -- A forest over the numbers below a length: a list that holds, for each number, its parent. A root is its own parent; two numbers are in
 -- one tree exactly if links connect them. Assumes nothing.
-use Rattle.std.specs.Prelude.{◌≡◌, ℕ, ◌<◌, ◌≤◌, ◌⊎◌, List, length, slice_index}
+use Rattle.std.specs.Prelude.{◌≡◌, ℕ, ◌<◌, ◌≤◌, ◌⊎◌, ◌↔◌, List, length, slice_index}
 use Rattle.theory_parts.specs.Parts.{Connected}
 
 abbrev pub parent : List ℕ → ℕ → ℕ
@@ -13,10 +13,6 @@ Forest p = (a : ℕ) → a < length p → parent p a ≤ a
 -- every number is a root
 abbrev pub Alone : List ℕ → Type 0
 Alone p = (a : ℕ) → a < length p → parent p a ≡ a
-
--- every parent is a root
-abbrev pub Flat : List ℕ → Type 0
-Flat p = (a : ℕ) → a < length p → parent p (parent p a) ≡ parent p a
 
 -- b is the parent of a
 pub record Link (p : List ℕ) (a b : ℕ) : Type 0 where
@@ -32,11 +28,14 @@ pub record Alike (R S : ℕ → ℕ → Type 0) : Type 0 where
   pub there : (a b : ℕ) → R a b → Connected S a b
   pub back : (a b : ℕ) → S a b → Connected R a b
 
--- On the way up from a number, from parent to parent, to `here`: the forest may have changed from p to q, but connects what it did, and
--- what was a root is one.
-pub record Way (p q : List ℕ) (from here : ℕ) : Type 0 where
-  pub forest : Forest q
-  pub alike : Alike (Link q) (Link p)
-  pub linked : Connected (Link q) from here
-  pub down : here ≤ from
-  pub roots_stay : (a : ℕ) → parent p a ≡ a → parent q a ≡ a
+-- numbers of a forest's trees: two places have one number exactly if links connect them
+pub record Tells (p numbers : List ℕ) : Type 0 where
+  pub below : (a : ℕ) → a < length p → slice_index numbers a < length p
+  pub tells : (a b : ℕ) → a < length p → b < length p → (slice_index numbers a ≡ slice_index numbers b) ↔ Connected (Link p) a b
+
+-- m is the least of three parents
+pub record LeastParent (p : List ℕ) (a b c m : ℕ) : Type 0 where
+  pub first : m ≤ parent p a
+  pub second : m ≤ parent p b
+  pub third : m ≤ parent p c
+  pub one : (m ≡ parent p a) ⊎ ((m ≡ parent p b) ⊎ (m ≡ parent p c))

@@ -1,4 +1,4 @@
-pub mod Buffer
+pub mod Taking
 pub mod Links
 pub mod Forest
 pub mod Passes

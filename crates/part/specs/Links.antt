@@ -5,7 +5,8 @@ use Rattle.theory.specs.Grid.{Point, Border}
 use Rattle.theory.specs.Triangle.{Tri, tri}
 use Rattle.theory_numbers.specs.Numbers.{numbered}
 use Rattle.theory_parts.specs.Parts.{Stands, InTurn, Linked, Ringed, Numbered}
-use Rattle.part.specs.Buffer.{triangles_in, parts_in, Takes}
+use Rattle.theory_parts.specs.Buffer.{triangles_in, parts_in}
+use Rattle.part.specs.Taking.{Takes}
 
 abbrev pub first_corner : Tri ℕ → ℕ
 first_corner (tri a b c) = a

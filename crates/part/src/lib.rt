@@ -1,16 +1,20 @@
-// The parts of a skin: which triangles hang together, numbered by their first triangle.
+// The parts of a skin: which triangles hang together, numbered by their first triangle, in flat buffers of the caller's, without a heap.
 #![tactic(auto)]
 
-ghost use Rattle.std.specs.Prelude.{◌≡◌, ◌^◌, ◌<◌, true, ◌↔◌, length, MatchOption, slice_index};
+ghost use Rattle.std.specs.Prelude.{◌≡◌, ℕ, ◌%◌, ◌^◌, ◌<◌, true, ◌↔◌, length, Some, MatchOption, slice_index};
 ghost use Rattle.theory_parts.specs.Parts.{InTurn};
 ghost use Rattle.part.specs.Forest.{Forest, Link, Alike};
-ghost use Rattle.part.specs.Buffer.{count_in, parts_in, InRange, Takes};
+ghost use Rattle.theory_parts.specs.Buffer.{count_in, parts_in};
+ghost use Rattle.part.specs.Taking.{InRange, Takes};
 ghost use Rattle.part.specs.Links.{OnlyByLinks, LinksNumberParts, SkinsNumbered, Refused, Written};
-ghost use Rattle.part.specs.Passes.{PlusSpokes, Rooted, SameCorners, HoldsRoots, PartsBelow, SameParts, given_at};
+ghost use Rattle.part.specs.Passes.{Told, SameCorners, HoldsNumbers, PartsBelow, SameParts, given_at};
 
 mod forest;
 
-// Stands for the number of a root that has none yet. There are no more parts than corners, so no part has it for its number.
+use forest::Trees;
+
+// Stands for the new number of a number that has none yet. There are no more parts than corners, so no part has it for its number.
+// It is no Option, since new numbers stand in the caller's flat `u32` work.
 const UNNUMBERED: u32 = u32::MAX;
 
 // Writes the number of each triangle's part, and says how many parts there are. A triangle is four numbers: its three corners' and its
@@ -31,10 +35,12 @@ pub fn number_skin(triangles: &mut [u32], corners: u32, work: &mut [u32]) -> u32
     requires { Takes triangles.old corners work.old }
     ensures written { Written triangles.old corners work.old triangles.new result }
 {
-    let roots = &mut work[0..corners as usize];
-    find_roots(triangles, roots);
-    write_roots(triangles, roots);
-    give_numbers(triangles, roots)
+    let numbers = &mut work[0..corners as usize];
+    number_corners(triangles, numbers);
+    match write_numbers(triangles, numbers) {
+        Some(count) => count,
+        None => give_numbers(triangles, numbers),
+    }
 }
 
 // Whatever numbers the parts by linked corners numbers them as any other does; where there is one ring around each corner it numbers them by
@@ -54,49 +60,52 @@ fn takes(triangles: &[u32], corners: u32, work: &[u32]) -> bool
 }
 
 fn in_range(triangles: &[u32], corners: u32) -> bool
+    requires { length triangles.now % 4 ≡ 0 }
     ensures value { (result ≡ true) ↔ InRange triangles.now corners }
 {
-    for i in 0..triangles.len() {
-        if i % 4 < 3 && triangles[i] >= corners {
-            return false;
-        }
-    }
-    true
+    triangles
+        .as_chunks::<4>()
+        .0
+        .iter()
+        .all(|&[a, b, c, _]| a < corners && b < corners && c < corners)
 }
 
-// Finds for each corner the smallest corner that it is linked to.
-fn find_roots(triangles: &[u32], roots: &mut [u32])
-    requires { (InRange triangles.now (length roots.old)) × (length roots.old < 2 ^ 32) }
-    ensures rooted { Rooted triangles.now roots.new }
+// Numbers the corners, so that linked ones, and no others, have one number. That a `u32` counts them is said of each slice of numbers: a
+// struct of `&mut` slices would have to say instead that it keeps the same ones, which is no shorter.
+fn number_corners(triangles: &[u32], numbers: &mut [u32])
+    requires { (InRange triangles.now (length numbers.old)) × (length numbers.old < 2 ^ 32) }
+    ensures told { Told triangles.now numbers.new }
 {
-    forest::set_alone(roots);
-    for i in 0..triangles.len() / 4 {
-        unite_triangle(triangles, i, roots);
+    let mut trees = Trees::alone(numbers);
+    for &[a, b, c, _] in triangles.as_chunks::<4>().0 {
+        trees.unite_three(a, b, c);
     }
-    forest::flatten(roots);
+    trees.number();
 }
 
-fn unite_triangle(triangles: &[u32], i: usize, parents: &mut [u32])
-    requires { (i < count_in triangles.now) × ((InRange triangles.now (length parents.old)) × (Forest parents.old)) }
-    ensures forest { Forest parents.new }
-    ensures alike { Alike (Link parents.new) (PlusSpokes triangles.now i (Link parents.old)) }
-{
-    forest::unite(parents, triangles[4 * i], triangles[4 * i + 1]);
-    forest::unite(parents, triangles[4 * i], triangles[4 * i + 2]);
-}
-
-// Writes the root of its first corner into each triangle.
-fn write_roots(triangles: &mut [u32], roots: &[u32])
-    requires { InRange triangles.old (length roots.now) }
+// Writes the number of its first corner into each triangle. Says how many numbers there are if they come in turn, as they do where corners
+// are numbered as triangles meet them.
+fn write_numbers(triangles: &mut [u32], numbers: &[u32]) -> Option<u32>
+    requires { (InRange triangles.old (length numbers.now)) × ((Told triangles.old numbers.now) × (length numbers.now < 2 ^ 32)) }
     ensures same { SameCorners triangles.old triangles.new }
-    ensures written { HoldsRoots roots.now triangles.old triangles.new }
+    ensures written { HoldsNumbers numbers.now triangles.old triangles.new }
+    ensures turn { (n : ℕ) → result ≡ Some n → InTurn 0 (parts_in triangles.new) n }
 {
+    let mut count = Some(0);
+    // By index: nothing is known of what was written to the chunks of `as_chunks_mut`.
     for i in 0..triangles.len() / 4 {
-        triangles[4 * i + 3] = roots[triangles[4 * i] as usize];
+        let number = numbers[triangles[4 * i] as usize];
+        triangles[4 * i + 3] = number;
+        count = match count {
+            Some(n) if number < n => Some(n),
+            Some(n) if number == n => Some(n + 1),
+            _ => None,
+        };
     }
+    count
 }
 
-// Puts numbers in turn in the place of roots, and says how many it gave. What `numbers` held before does not matter.
+// Puts numbers in turn in the place of others, and says how many it gave. What `numbers` held before does not matter.
 fn give_numbers(triangles: &mut [u32], numbers: &mut [u32]) -> u32
     requires { (PartsBelow triangles.old (length numbers.old)) × (length numbers.old < 2 ^ 32) }
     ensures same { SameCorners triangles.old triangles.new }
@@ -105,26 +114,28 @@ fn give_numbers(triangles: &mut [u32], numbers: &mut [u32]) -> u32
 {
     numbers.fill(UNNUMBERED);
     let mut count = 0;
+    // By index, as above: nothing is known of what was written to chunks.
     for i in 0..triangles.len() / 4 {
-        let number = number_of(numbers, triangles[4 * i + 3], count);
+        let at = 4 * i + 3;
+        let number = number_of(numbers, triangles[at], count);
         if number == count {
             count += 1;
         }
-        triangles[4 * i + 3] = number;
+        triangles[at] = number;
     }
     count
 }
 
-// The number of a root, which is the next one if it has none.
-fn number_of(numbers: &mut [u32], root: u32, next: u32) -> u32
-    requires { root < length numbers.old }
-    ensures given { numbers.new ≡ given_at numbers.old root next }
-    ensures value { result ≡ slice_index numbers.new root }
+// The new number of a number, which is the next one if it has none.
+fn number_of(numbers: &mut [u32], old: u32, next: u32) -> u32
+    requires { old < length numbers.old }
+    ensures given { numbers.new ≡ given_at numbers.old old next }
+    ensures value { result ≡ slice_index numbers.new old }
 {
-    if numbers[root as usize] == UNNUMBERED {
-        numbers[root as usize] = next;
+    if numbers[old as usize] == UNNUMBERED {
+        numbers[old as usize] = next;
     }
-    numbers[root as usize]
+    numbers[old as usize]
 }
 
 #[cfg(test)]

@@ -2,16 +2,18 @@
 -- cuts every piece of every cube. Assumes nothing.
 use Rattle.std.proofs.Common.{◌≡◌, ℕ, zero, suc, ◌/◌, ◌%◌, ◌<◌, Bool, eqb, List, [], ◌∷◌, map, get_or, Some, sym, refl, ap, ◌∙◌, arith}
 use lib.Bits.{bit_and}
-use Rattle.std.specs.List.{AllByRecursion, range_with_len}
+use Rattle.std.proofs.Math.ListN.{get_or-map}
+use Rattle.std.specs.Borrow.{Bor}
+use Rattle.std.specs.Option.{option_map_or}
+use Rattle.std.specs.List.{AllByRecursion, range_with_len, slice_get}
 use Rattle.std.proofs.lemmas.Nat.{and_mask, and_le_r}
 use Rattle.std.proofs.lemmas.List.FromFn.{get_or-map-range_with_len}
-use Rattle.theory.specs.Triangle.{Edge, edge, Tri}
+use Rattle.theory.specs.Triangle.{Edge, edge, Tri, tri, corners}
 use Rattle.theory.specs.Grid.{Point, Piece}
 use Rattle.theory.specs.Skin.{cut, cut_by, in_piece}
 use Rattle.theory.specs.Faces.{renamed}
 use Rattle.theory.proofs.Same.{cut_renamed}
-use Rattle.piece.specs.declared.pair.Pair.{Pair}
-use Rattle.piece.specs.Table.{as_edge, bit, triangles_in, corner_in, corner_of, corner_point, CutByTable}
+use Rattle.piece.specs.Table.{bit, triangles_in, unused, corners_of, corner_in, corner_point, CutByTable}
 
 -- the triangles of a case are those of its four low bits
 triangles_masked : (n : ℕ) → triangles_in (bit_and n 15) ≡ triangles_in n
@@ -35,25 +37,28 @@ pub at_case : {X : Type 0} (entry : List (Tri (Edge ℕ)) → X) (d : X) (n : �
 at_case entry d n =
     get_or_right (λ k. entry (triangles_in k)) 16 (bit_and n 15) d (omega (arith, and_le_r n 15)) ∙ ap entry (triangles_masked n)
 
-abbrev pair_of : Edge ℕ → Pair
-pair_of (edge p q) = record { inside = p; outside = q }
+-- the same of a table of what is lent, entry by entry
+pub at_case_lent : {X : Type 0} (entry : List (Tri (Edge ℕ)) → X) (r0 r1 r2 r3 r4 r5 r6 r7 r8 r9 ra rb rc rd re rf : Bor X) (d : Bor X) (n : ℕ) → map (λ r. r.now) (r0 ∷ r1 ∷ r2 ∷ r3 ∷ r4 ∷ r5 ∷ r6 ∷ r7 ∷ r8 ∷ r9 ∷ ra ∷ rb ∷ rc ∷ rd ∷ re ∷ rf ∷ []) ≡ table_of entry → (get_or (r0 ∷ r1 ∷ r2 ∷ r3 ∷ r4 ∷ r5 ∷ r6 ∷ r7 ∷ r8 ∷ r9 ∷ ra ∷ rb ∷ rc ∷ rd ∷ re ∷ rf ∷ []) (bit_and n 15) d).now ≡ entry (triangles_in n)
+at_case_lent entry r0 r1 r2 r3 r4 r5 r6 r7 r8 r9 ra rb rc rd re rf d n same =
+    sym (get_or-map (λ r. r.now) (r0 ∷ r1 ∷ r2 ∷ r3 ∷ r4 ∷ r5 ∷ r6 ∷ r7 ∷ r8 ∷ r9 ∷ ra ∷ rb ∷ rc ∷ rd ∷ re ∷ rf ∷ []) (bit_and n 15) d) ∙ ap (λ l. get_or l (bit_and n 15) d.now) same ∙ at_case entry d.now n
 
-as_edge_pair : (e : Edge ℕ) → as_edge (pair_of e) ≡ e
-as_edge_pair (edge p q) = refl
+abbrev edge_of : ℕ × ℕ → Edge ℕ
+edge_of p = edge p.0 p.1
 
--- two triangles of three corners each, as the table has them
-abbrev three : List (Tri (Edge ℕ)) → ℕ → List Pair
-three ts k = map (λ i. pair_of (corner_in ts k i)) (range_with_len 0 3)
+-- a corner of a triangle by its names, and one of a triangle that is not there
+names_at : (t : Tri (Edge ℕ)) (i : ℕ) (d : ℕ × ℕ) → i < 3 → edge_of (get_or (corners_of t) i d) ≡ get_or (corners t) i unused
+names_at (tri (edge p q) b c) zero d l = refl
+names_at (tri a (edge p q) c) (suc zero) d l = refl
+names_at (tri a b (edge p q)) (suc (suc zero)) d l = refl
+names_at (tri a b c) (suc (suc (suc i))) d l = absurd (omega arith)
 
-abbrev entries : List (Tri (Edge ℕ)) → List (List Pair)
-entries ts = map (three ts) (range_with_len 0 2)
-
-pub corner_at : (d : List (List Pair)) (e : List Pair) (p : Pair) (n k i : ℕ) → as_edge (get_or (get_or (get_or (table_of entries) (bit_and n 15) d) (k % 2) e) (i % 3) p) ≡ corner_of n k i
-corner_at d e p n k i =
-    ap (λ t. as_edge (get_or (get_or t (k % 2) e) (i % 3) p)) (at_case entries d n)
-    ∙ ap (λ t. as_edge (get_or t (i % 3) p)) (get_or_right (three (triangles_in n)) 2 (k % 2) e (omega arith))
-    ∙ ap as_edge (get_or_right (λ j. pair_of (corner_in (triangles_in n) (k % 2) j)) 3 (i % 3) p (omega arith))
-    ∙ as_edge_pair (corner_of n k i)
+pub names_found : (ts : List (Tri (Edge ℕ))) (k i : ℕ) (d : ℕ × ℕ) → i < 3 → edge_of (option_map_or (λ cs. get_or cs i d) (slice_get (map corners_of ts) k) (0, 0)) ≡ corner_in ts k i
+names_found [] k zero d l = refl
+names_found [] k (suc zero) d l = refl
+names_found [] k (suc (suc zero)) d l = refl
+names_found [] k (suc (suc (suc i))) d l = absurd (omega arith)
+names_found (t ∷ ts) zero i d l = names_at t i d l
+names_found (t ∷ ts) (suc k) i d l = names_found ts k i d l
 
 -- a piece whose points stand in the order of their names
 cut_named : (f : Point → Bool) (g : ℕ → Point) (n : ℕ) → AllByRecursion (λ i. bit n i ≡ f (g i)) (0 ∷ 1 ∷ 2 ∷ 3 ∷ []) → cut_by f (g 0) (g 1) (g 2) (g 3) ≡ map (renamed g) (triangles_in n)

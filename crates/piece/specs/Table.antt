@@ -5,7 +5,7 @@ use Rattle.theory.specs.Grid.{Point, Offset, off, ◌⊕◌, Piece, way, pieces}
 use Rattle.theory.specs.Triangle.{Edge, edge, Tri, tri, one_if, corners}
 use Rattle.theory.specs.Skin.{cut_by, in_piece}
 use Rattle.theory.specs.Faces.{renamed}
-use Rattle.piece.specs.declared.pair.Pair.{Pair}
+use Rattle.piece.specs.declared.Pair.{Pair}
 
 -- a point of a cube as a number: bit 0 is one step along x, bit 1 along y, bit 2 along z
 abbrev pub offset_number : Offset → ℕ
@@ -42,6 +42,13 @@ no_triangle = tri unused unused unused
 -- a pair of names as a corner
 abbrev pub as_edge : Pair → Edge ℕ
 as_edge p = edge p.inside p.outside
+
+-- a corner by its two names, and a triangle by its three corners
+abbrev pub names_of : Edge ℕ → ℕ × ℕ
+names_of (edge p q) = (p, q)
+
+abbrev pub corners_of : Tri (Edge ℕ) → List (ℕ × ℕ)
+corners_of t = map names_of (corners t)
 
 -- a corner of a triangle in a list
 abbrev pub corner_in : List (Tri (Edge ℕ)) → ℕ → ℕ → Edge ℕ

@@ -1,13 +1,15 @@
 // The six pieces of a cube, and the triangles in a piece for each case of which of its points are inside: constants, read by an index.
 #![tactic(auto)]
 
-ghost use Rattle.std.specs.Prelude.{◌≡◌, length};
-ghost use Rattle.piece.specs.Table.{point_of, triangles_in, as_edge, corner_of, CutByTable};
+ghost use Rattle.std.specs.Prelude.{◌≡◌, length, map};
+ghost use Rattle.piece.specs.Table.{point_of, triangles_in, as_edge, corner_of, corners_of, CutByTable};
 
-mod pair;
-
-pub use pair::Pair;
-use pair::*;
+// A corner of a triangle in a piece, by the names of the two ends of its edge.
+#[derive(Clone, Copy, PartialEq, Eq, Debug)]
+pub struct Pair {
+    pub inside: u8,
+    pub outside: u8,
+}
 
 // The point of a name (0 to 3) in a piece (0 to 5), by its number in the cube. Pieces are counted round, and so are names.
 pub fn point_of(piece: usize, name: usize) -> u8
@@ -20,7 +22,7 @@ pub fn point_of(piece: usize, name: usize) -> u8
 pub fn triangle_count(case: u8) -> usize
     ensures value { result ≡ length (triangles_in case) }
 {
-    COUNTS[(case & 15) as usize] as usize
+    triangles_of(case).len()
 }
 
 // A corner (0 to 2) of a triangle (0 or 1) of a piece. Triangles are counted round, and so are corners; of a triangle that the piece does
@@ -28,9 +30,17 @@ pub fn triangle_count(case: u8) -> usize
 pub fn corner_of(case: u8, triangle: usize, corner: usize) -> Pair
     ensures value { as_edge result ≡ corner_of case triangle corner }
 {
-    // lent, since a constant of structs that is not lent is built anew at each call
-    let table = &CORNERS;
-    table[(case & 15) as usize][triangle % 2][corner % 3]
+    let (inside, outside) = triangles_of(case)
+        .get(triangle % 2)
+        .map_or((0, 0), |corners| corners[corner % 3]);
+    Pair { inside, outside }
+}
+
+// The triangles of a case, each by the two names of each of its corners.
+fn triangles_of(case: u8) -> &'static [[(u8, u8); 3]]
+    ensures value { result.now ≡ map corners_of (triangles_in case) }
+{
+    CASES[(case & 15) as usize]
 }
 
 // What the three give together are the triangles of each piece of each cube.
@@ -73,42 +83,40 @@ pub const PIECES: [[u8; 4]; 6] = [
     [0, 4, 7, 6],
 ];
 
-// How many triangles a piece has, by the case.
-const COUNTS: [u8; 16] = [0, 1, 1, 2, 1, 2, 2, 1, 1, 2, 2, 1, 2, 1, 1, 0];
-
 // The triangles of a piece, by the case: who is inside stands above each. Seen from outside, corners run against the clock. Where two points
-// are inside the skin is a quadrilateral, which is cut along the diagonal from the first corner.
-const CORNERS: [[[Pair; 3]; 2]; 16] = [
+// are inside the skin is a quadrilateral, which is cut along the diagonal from the first corner. The corner (0, 2) is on the edge from the
+// inside point 0 to the outside point 2, and so on.
+static CASES: [&[[(u8, u8); 3]]; 16] = [
     // none
-    [NONE, NONE],
+    &[],
     // 0
-    [[P01, P02, P03], NONE],
+    &[[(0, 1), (0, 2), (0, 3)]],
     // 1
-    [[P10, P13, P12], NONE],
+    &[[(1, 0), (1, 3), (1, 2)]],
     // 0 1
-    [[P02, P03, P13], [P02, P13, P12]],
+    &[[(0, 2), (0, 3), (1, 3)], [(0, 2), (1, 3), (1, 2)]],
     // 2
-    [[P20, P21, P23], NONE],
+    &[[(2, 0), (2, 1), (2, 3)]],
     // 0 2
-    [[P01, P23, P03], [P01, P21, P23]],
+    &[[(0, 1), (2, 3), (0, 3)], [(0, 1), (2, 1), (2, 3)]],
     // 1 2
-    [[P10, P13, P23], [P10, P23, P20]],
+    &[[(1, 0), (1, 3), (2, 3)], [(1, 0), (2, 3), (2, 0)]],
     // 0 1 2
-    [[P03, P13, P23], NONE],
+    &[[(0, 3), (1, 3), (2, 3)]],
     // 3
-    [[P30, P32, P31], NONE],
+    &[[(3, 0), (3, 2), (3, 1)]],
     // 0 3
-    [[P01, P02, P32], [P01, P32, P31]],
+    &[[(0, 1), (0, 2), (3, 2)], [(0, 1), (3, 2), (3, 1)]],
     // 1 3
-    [[P10, P32, P12], [P10, P30, P32]],
+    &[[(1, 0), (3, 2), (1, 2)], [(1, 0), (3, 0), (3, 2)]],
     // 0 1 3
-    [[P02, P32, P12], NONE],
+    &[[(0, 2), (3, 2), (1, 2)]],
     // 2 3
-    [[P20, P21, P31], [P20, P31, P30]],
+    &[[(2, 0), (2, 1), (3, 1)], [(2, 0), (3, 1), (3, 0)]],
     // 0 2 3
-    [[P01, P21, P31], NONE],
+    &[[(0, 1), (2, 1), (3, 1)]],
     // 1 2 3
-    [[P10, P30, P20], NONE],
+    &[[(1, 0), (3, 0), (2, 0)]],
     // 0 1 2 3
-    [NONE, NONE],
+    &[],
 ];

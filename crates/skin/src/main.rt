@@ -2,22 +2,22 @@
 #![tactic(auto)]
 
 mod input;
-mod made;
 mod output;
 
-use anyhow::anyhow;
+use anyhow::{anyhow, bail};
 use input::contents;
-use made::{Skin, Trouble, skin_of};
 use output::save;
+use skins::{Skin, Trouble};
+use std::env;
+use std::fmt::Display;
 use std::process::ExitCode;
-use std::{env, io};
-use volume::Part;
+use whole::Made;
 
 const USAGE: &str = "usage: skin BLOCK [OUT]
 BLOCK is a file of a block's bytes, or - for standard input. The skin's bytes are written to OUT, if it is named.
 A block that is refused is answered by 'refused N at P', and status 1.";
 
-// What went wrong was said where it could be: the status is 1, and nothing more is printed.
+// What went wrong was said where it could be, and whole, which an error keeps only in part: here only the status is left.
 fn main(rt: HostRuntime) -> ExitCode {
     match answer(&rt) {
         Ok(()) => ExitCode::SUCCESS,
@@ -27,71 +27,61 @@ fn main(rt: HostRuntime) -> ExitCode {
 
 fn answer(rt: &HostRuntime) -> anyhow::Result<()> {
     let args: Vec<String> = env::args(rt)?.skip(1).collect(rt.alloc())?;
-    if args.len() == 1 && args[0].as_str() == "--help" {
-        rt.println(USAGE)?;
-        return Ok(());
-    }
-    if args.len() == 1 {
-        return run(rt, args[0].as_str(), "");
-    }
-    if args.len() == 2 {
-        return run(rt, args[0].as_str(), args[1].as_str());
-    }
-    rt.eprintln(USAGE)?;
-    Err(anyhow!("wrong use"))
-}
-
-fn run(rt: &HostRuntime, name: &str, out: &str) -> anyhow::Result<()> {
-    match contents(rt, name) {
-        Ok(bytes) => build(rt, bytes.as_slice(), name, out),
-        Err(e) => {
-            eprintln!(rt; "skin: {name}: {e}")?;
-            Err(anyhow!("not read"))
+    match args.as_slice() {
+        [help] if help.as_str() == "--help" => Ok(rt.println(USAGE)?),
+        [block] => run(rt, block.as_str(), None),
+        // An empty word names no file.
+        [block, out] => run(
+            rt,
+            block.as_str(),
+            Some(out.as_str()).filter(|out| !out.is_empty()),
+        ),
+        _ => {
+            rt.eprintln(USAGE)?;
+            bail!("wrong use")
         }
     }
 }
 
-fn build(rt: &HostRuntime, bytes: &[u8], name: &str, out: &str) -> anyhow::Result<()> {
-    match skin_of(rt.alloc(), bytes) {
-        Ok(skin) => report(rt, &skin, out),
+fn run(rt: &HostRuntime, name: &str, out: Option<&str>) -> anyhow::Result<()> {
+    let bytes = said(rt, name, contents(rt, name))?;
+    match Skin::of(rt.alloc(), bytes.as_slice()) {
         Err(Trouble::Refused(refusal)) => {
             rt.println(refusal)?;
-            Err(anyhow!("refused"))
+            bail!("refused")
         }
-        Err(Trouble::NoMemory) => {
-            eprintln!(rt; "skin: {name}: not enough memory for its skin")?;
-            Err(anyhow!("no memory"))
-        }
+        answer => report(rt, &said(rt, name, answer)?, out),
     }
 }
 
 // The file first: what is printed is then true of it.
-fn report(rt: &HostRuntime, skin: &Skin, out: &str) -> anyhow::Result<()> {
-    if !out.is_empty() {
-        if let Err(e) = save(rt, skin, out) {
-            eprintln!(rt; "skin: {out}: {e}")?;
-            return Err(anyhow!("not written"));
-        }
+fn report(rt: &HostRuntime, skin: &Skin, out: Option<&str>) -> anyhow::Result<()> {
+    if let Some(out) = out {
+        said(rt, out, save(rt, skin, out))?;
     }
-    let corners = skin.made.corners;
-    let triangles = skin.made.triangles;
-    let parts = skin.made.parts;
+    let Made {
+        corners,
+        triangles,
+        parts,
+    } = skin.made;
     println!(rt; "corners {corners} triangles {triangles} parts {parts}")?;
     for (i, part) in skin.parts.iter().enumerate() {
-        show(rt, i, *part)?;
+        println!(rt; "part {i} {part}")?;
     }
     Ok(())
 }
 
-fn show(rt: &HostRuntime, i: usize, part: Part) -> io::Result<()> {
-    match part {
-        Part::Outer {
-            triangles,
-            six_volumes,
-        } => println!(rt; "part {i} outer triangles {triangles} six volumes {six_volumes}"),
-        Part::Inner {
-            triangles,
-            six_volumes,
-        } => println!(rt; "part {i} inner triangles {triangles} six volumes {six_volumes}"),
+// What was had of a file; or what went wrong with it, said.
+fn said<T, E: Display + Drop>(
+    rt: &HostRuntime,
+    file: &str,
+    outcome: Result<T, E>,
+) -> anyhow::Result<T> {
+    match outcome {
+        Ok(value) => Ok(value),
+        Err(e) => {
+            eprintln!(rt; "skin: {file}: {e}")?;
+            Err(anyhow!("said"))
+        }
     }
 }

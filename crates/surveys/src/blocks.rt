@@ -1,11 +1,14 @@
 // Random blocks through builder, parts, volumes, bytes and checker, beside what their points alone say and the slow survey.
 use crate::expected::{
-    count_crossings, count_regions, lie_apart, lie_on_crossings, sum_of_all, sum_of_part,
+    count_crossings, count_regions, lie_apart, lie_on_crossings, parts_of, six_volumes,
 };
-use crate::made::{Made, checked, skin_of};
-use crate::random::{Kind, Pattern, Random, Spread, random_block};
-use crate::survey::{Answer, Skin, first_fault, low_bits};
-use std::alloc::{AllocError, Global};
+use crate::made::{Made, checked};
+use crate::random::{Kind, Pattern, Random, Spread};
+use crate::scan::Scan;
+use crate::skin::Skin;
+use crate::survey::surveyed;
+use anyhow::ensure;
+use std::alloc::Global;
 use volume::Part;
 
 const SEED: u64 = 0x9e37_79b9_7f4a_7c15;
@@ -17,204 +20,126 @@ const MOST: u8 = 12;
 // The survey takes time quadratic in triangles, and in corners times points: it is left out for skins and blocks larger than this.
 const SURVEYED_TRIANGLES: usize = 600;
 
-const SURVEYED_POINTS: usize = 600;
+const SURVEYED_BYTES: usize = 600;
 
-const PATTERNS: [(Pattern, &str); 4] = [
-    (Pattern::Half, "half the points inside"),
-    (Pattern::Few, "few points inside"),
-    (Pattern::Most, "most points inside"),
-    (Pattern::Shells, "shells in shells"),
-];
+const PATTERNS: [Pattern; 4] = [Pattern::Half, Pattern::Few, Pattern::Most, Pattern::Shells];
+
+const SPREADS: [Spread; 2] = [Spread::Any, Spread::Near];
 
 // Runs every kind of block, prints a line for each, and says how many blocks differ.
 pub fn run(rt: &HostRuntime) -> anyhow::Result<u32> {
     let mut random = Random(SEED);
     let mut differences = 0u32;
-    for (pattern, name) in &PATTERNS {
-        let any = Kind {
-            pattern: *pattern,
-            spread: Spread::Any,
-        };
-        differences = differences.saturating_add(run_kind(
-            rt,
-            &mut random,
-            any,
-            name,
-            "any values",
-        )?);
-        let near = Kind {
-            pattern: *pattern,
-            spread: Spread::Near,
-        };
-        differences = differences.saturating_add(run_kind(
-            rt,
-            &mut random,
-            near,
-            name,
-            "values near the threshold",
-        )?);
+    for pattern in PATTERNS {
+        for spread in SPREADS {
+            let kind = Kind {
+                pattern,
+                spread,
+                most: MOST,
+            };
+            differences = differences.saturating_add(run_kind(rt, &mut random, kind)?);
+        }
     }
     Ok(differences)
 }
 
-fn run_kind(
-    rt: &HostRuntime,
-    random: &mut Random,
-    kind: Kind,
-    name: &str,
-    values: &str,
-) -> anyhow::Result<u32> {
-    let mut triangles = 0usize;
-    let mut surveyed = 0u32;
-    let mut differences = 0u32;
+fn run_kind(rt: &HostRuntime, random: &mut Random, kind: Kind) -> anyhow::Result<u32> {
+    let mut totals = Totals::default();
     for n in 0..BLOCKS {
-        let bytes = random_block(rt.alloc(), random, kind, n, MOST)?;
-        let found = try_block(rt.alloc(), bytes.as_slice())?;
-        triangles = triangles.saturating_add(found.triangles);
-        if found.surveyed {
-            surveyed = surveyed.saturating_add(1);
-        }
-        if let Some(what) = found.difference {
-            println!(rt; "block {n} of {name}, {values}: {what}")?;
-            differences = differences.saturating_add(1);
+        let scan = kind.scan(rt.alloc(), random, n)?;
+        if let Err(what) = totals.compare(rt.alloc(), &scan) {
+            println!(rt; "block {n} of {kind}: {what}")?;
+            totals.differences = totals.differences.saturating_add(1);
         }
     }
+    let Totals {
+        surveyed,
+        triangles,
+        differences,
+    } = totals;
     println!(rt;
-        "{name}, {values}: {BLOCKS} blocks, {surveyed} surveyed, {triangles} triangles, {differences} differences"
+        "{kind}: {BLOCKS} blocks, {surveyed} surveyed, {triangles} triangles, {differences} differences"
     )?;
     Ok(differences)
 }
 
-// What came of a block: how many triangles it has, whether it was small enough for the survey, and the first thing that differs.
-#[derive(Clone, Copy)]
-struct Found {
+// How many blocks were small enough for the survey, how many triangles all have, and how many blocks differ.
+#[derive(Clone, Copy, Default)]
+struct Totals {
+    surveyed: u32,
     triangles: usize,
-    surveyed: bool,
-    difference: Option<&'static str>,
+    differences: u32,
 }
 
-fn try_block(heap: Global, bytes: &[u8]) -> Result<Found, AllocError> {
-    let Some(made) = skin_of(heap, bytes)? else {
-        return Ok(Found {
-            triangles: 0,
-            surveyed: false,
-            difference: Some("a library refuses it"),
-        });
-    };
-    let written = made.bytes(heap)?;
-    if checked(heap, written.as_slice())? != Answer::Closed {
-        return Ok(Found {
-            triangles: 0,
-            surveyed: false,
-            difference: Some("the checker refuses it"),
-        });
-    }
-    let skin = Skin::read(heap, written.as_slice())?;
-    let triangles = skin.triangles.len();
-    let mut difference = count_difference(heap, bytes, &made, &skin)?;
-    let surveyed = triangles <= SURVEYED_TRIANGLES && bytes.len() <= SURVEYED_POINTS;
-    if surveyed && difference.is_none() {
-        difference = survey_difference(heap, bytes, &made, &skin)?;
-    }
-    Ok(Found {
-        triangles,
-        surveyed,
-        difference,
-    })
-}
-
-// What can be compared in linear time.
-fn count_difference(
-    heap: Global,
-    bytes: &[u8],
-    made: &Made,
-    skin: &Skin,
-) -> Result<Option<&'static str>, AllocError> {
-    if skin.corners.len() != count_crossings(heap, bytes)? {
-        return Ok(Some("another number of corners than of crossings"));
-    }
-    let kinds = count_kinds(made.parts.as_slice());
-    if kinds.outer != count_regions(heap, bytes, true)? {
-        return Ok(Some("another number of outer parts than of regions inside"));
-    }
-    if kinds.inner.saturating_add(1) != count_regions(heap, bytes, false)? {
-        return Ok(Some("another number of inner parts than of regions outside but one"));
-    }
-    if kinds.six_volumes != sum_of_all(skin).six_volumes {
-        return Ok(Some("volumes of parts that do not add up"));
-    }
-    Ok(None)
-}
-
-// How many parts are seen from outside and from inside, and the sum of their volumes. A part of the wrong sign is neither.
-#[derive(Clone, Copy)]
-struct Kinds {
-    outer: usize,
-    inner: usize,
-    six_volumes: i64,
-}
-
-fn count_kinds(parts: &[Part]) -> Kinds {
-    let mut kinds = Kinds {
-        outer: 0,
-        inner: 0,
-        six_volumes: 0,
-    };
-    for part in parts {
-        match *part {
-            Part::Outer {
-                triangles: _,
-                six_volumes,
-            } if six_volumes > 0 => {
-                kinds.outer = kinds.outer.saturating_add(1);
-                kinds.six_volumes = kinds.six_volumes.wrapping_add(six_volumes);
-            }
-            Part::Inner {
-                triangles: _,
-                six_volumes,
-            } if six_volumes < 0 => {
-                kinds.inner = kinds.inner.saturating_add(1);
-                kinds.six_volumes = kinds.six_volumes.wrapping_add(six_volumes);
-            }
-            _ => {}
+impl Totals {
+    // Counts a block, or says the first thing in which the libraries differ from what is found by other means.
+    fn compare(&mut self, heap: Global, scan: &Scan) -> anyhow::Result<()> {
+        let bytes = scan.bytes(heap)?;
+        let made = Made::of(heap, bytes.as_slice())?;
+        let written = made.bytes(heap)?;
+        let verdict = checked(heap, written.as_slice())?;
+        ensure!(verdict.is_ok(), "the checker refuses it");
+        let skin = Skin::read(heap, written.as_slice())?;
+        self.triangles = self.triangles.saturating_add(skin.triangles.len());
+        compare_counts(heap, scan, &made, &skin)?;
+        if skin.triangles.len() <= SURVEYED_TRIANGLES && bytes.len() <= SURVEYED_BYTES {
+            self.surveyed = self.surveyed.saturating_add(1);
+            compare_survey(heap, scan, &made, &skin)?;
         }
+        Ok(())
     }
-    kinds
+}
+
+// What can be compared in linear time. A part of the wrong sign is neither outer nor inner.
+fn compare_counts(heap: Global, scan: &Scan, made: &Made, skin: &Skin) -> anyhow::Result<()> {
+    ensure!(
+        skin.corners.len() == count_crossings(scan),
+        "another number of corners than of crossings"
+    );
+    let parts = made.parts.as_slice();
+    let outer = parts
+        .iter()
+        .filter(|part| matches!(part, Part::Outer { six_volumes, .. } if *six_volumes > 0))
+        .count();
+    let inside = count_regions(heap, scan, |p| scan.is_inside(p))?;
+    ensure!(
+        outer == inside,
+        "another number of outer parts than of regions inside"
+    );
+    let inner = parts
+        .iter()
+        .filter(|part| matches!(part, Part::Inner { six_volumes, .. } if *six_volumes < 0))
+        .count();
+    let outside = count_regions(heap, scan, |p| !scan.is_inside(p))?;
+    ensure!(
+        inner.saturating_add(1) == outside,
+        "another number of inner parts than of regions outside but one"
+    );
+    let sum = parts
+        .iter()
+        .fold(0i64, |sum, part| sum.wrapping_add(part.six_volumes()));
+    ensure!(
+        sum == six_volumes(skin),
+        "volumes of parts that do not add up"
+    );
+    Ok(())
 }
 
 // What takes a survey.
-fn survey_difference(
-    heap: Global,
-    bytes: &[u8],
-    made: &Made,
-    skin: &Skin,
-) -> Result<Option<&'static str>, AllocError> {
+fn compare_survey(heap: Global, scan: &Scan, made: &Made, skin: &Skin) -> anyhow::Result<()> {
     let written = skin.bytes(heap)?;
-    if first_fault(heap, written.as_slice())? != Answer::Closed {
-        return Ok(Some("the survey finds a rule in fault"));
-    }
-    if !lie_apart(skin.corners.as_slice()) {
-        return Ok(Some("two corners at one place"));
-    }
-    if !lie_on_crossings(heap, bytes, skin.corners.as_slice())? {
-        return Ok(Some("a step with the wrong corners on it"));
-    }
-    let flooded = skin.flood(heap)?;
-    for (i, part) in made.parts.iter().enumerate() {
-        let sum = sum_of_part(skin, &flooded, low_bits(i));
-        let same = match *part {
-            Part::Outer {
-                triangles,
-                six_volumes,
-            } => triangles == sum.triangles && six_volumes == sum.six_volumes,
-            Part::Inner {
-                triangles,
-                six_volumes,
-            } => triangles == sum.triangles && six_volumes == sum.six_volumes,
-        };
-        if !same {
-            return Ok(Some("a part with another sum"));
-        }
-    }
-    Ok(None)
+    let verdict = surveyed(heap, written.as_slice())?;
+    ensure!(verdict.is_ok(), "the survey finds a rule in fault");
+    let corners = skin.corners.as_slice();
+    ensure!(lie_apart(corners), "two corners at one place");
+    ensure!(
+        lie_on_crossings(scan, corners),
+        "a step with the wrong corners on it"
+    );
+    let parts = parts_of(heap, skin)?;
+    ensure!(
+        parts.as_slice() == made.parts.as_slice(),
+        "a part with another sum"
+    );
+    Ok(())
 }

@@ -1,6 +1,6 @@
 // Ways to damage a skin.
 use crate::random::Random;
-use crate::survey::{Place, Skin, Triangle, low_bits};
+use crate::skin::{Corner, Skin, Triangle, count};
 use std::alloc::AllocError;
 
 // A triangle is named by its place in the order, a corner and a part by its number.
@@ -29,27 +29,73 @@ pub enum Damage {
 }
 
 impl Damage {
+    // Damages a skin, where it has what is to be damaged.
     pub fn apply(self, skin: &mut Skin) -> Result<(), AllocError> {
         match self {
-            Damage::Dropped(i) => drop_triangle(&mut skin.triangles, i),
+            Damage::Dropped(i) => {
+                if i < skin.triangles.len() {
+                    let _ = skin.triangles.remove(i);
+                }
+            }
             Damage::Doubled(i) => {
                 if let Some(t) = skin.triangles.get(i).copied() {
                     skin.triangles.push(t)?;
                 }
             }
+            Damage::Turned(i)
+            | Damage::Repeated(i)
+            | Damage::Renumbered(i, _)
+            | Damage::Moved(i, _) => {
+                if let Some(t) = skin.triangles.get_mut(i) {
+                    *t = self.changed(*t);
+                }
+            }
+            Damage::Welded(..) | Damage::Exchanged(..) => {
+                for t in skin.triangles.iter_mut() {
+                    *t = self.changed(*t);
+                }
+            }
             Damage::Counted(parts) => skin.parts = parts,
-            Damage::Loose => skin.corners.push(Place(0, 0, 0))?,
-            _ => self.change_each(&mut skin.triangles),
+            Damage::Loose => skin.corners.push(Corner::ORIGIN)?,
         }
         Ok(())
+    }
+
+    // What becomes of a triangle that is damaged.
+    fn changed(self, t: Triangle) -> Triangle {
+        let [a, b, c] = t.corners;
+        match self {
+            Damage::Turned(_) => Triangle {
+                corners: [a, c, b],
+                ..t
+            },
+            Damage::Repeated(_) => Triangle {
+                corners: [a, a, c],
+                ..t
+            },
+            Damage::Renumbered(_, a) => Triangle {
+                corners: [a, b, c],
+                ..t
+            },
+            Damage::Moved(_, part) => Triangle { part, ..t },
+            Damage::Welded(to, from) => Triangle {
+                corners: t
+                    .corners
+                    .map(|corner| if corner == from { to } else { corner }),
+                ..t
+            },
+            Damage::Exchanged(one, other) if t.part == one => Triangle { part: other, ..t },
+            Damage::Exchanged(one, other) if t.part == other => Triangle { part: one, ..t },
+            _ => t,
+        }
     }
 
     // Any one of these, at a place in the skin.
     pub fn any(random: &mut Random, skin: &Skin) -> Damage {
         let i = random.below(skin.triangles.len());
-        let corner = low_bits(random.below(skin.corners.len()));
-        let other = low_bits(random.below(skin.corners.len().saturating_add(1)));
-        let part = low_bits(random.below(skin.triangles.len().min(3)));
+        let corner = count(random.below(skin.corners.len()));
+        let other = count(random.below(skin.corners.len().saturating_add(1)));
+        let part = count(random.below(skin.triangles.len().min(3)));
         match random.below(12) {
             0 => Damage::Dropped(i),
             1 => Damage::Doubled(i),
@@ -62,77 +108,5 @@ impl Damage {
             8 => Damage::Loose,
             _ => Damage::Welded(corner, other),
         }
-    }
-
-    fn change_each(self, triangles: &mut Vec<Triangle>) {
-        for i in 0..triangles.len() {
-            let t = triangles[i];
-            triangles[i] = self.changed(i, t);
-        }
-    }
-
-    // What becomes of the triangle at a place.
-    fn changed(self, at: usize, t: Triangle) -> Triangle {
-        match self {
-            Damage::Turned(i) if i == at => Triangle {
-                a: t.a,
-                b: t.c,
-                c: t.b,
-                part: t.part,
-            },
-            Damage::Repeated(i) if i == at => Triangle {
-                a: t.a,
-                b: t.a,
-                c: t.c,
-                part: t.part,
-            },
-            Damage::Renumbered(i, a) if i == at => Triangle {
-                a,
-                b: t.b,
-                c: t.c,
-                part: t.part,
-            },
-            Damage::Moved(i, part) if i == at => Triangle {
-                a: t.a,
-                b: t.b,
-                c: t.c,
-                part,
-            },
-            Damage::Welded(to, from) => {
-                Triangle {
-                    a: welded(t.a, to, from),
-                    b: welded(t.b, to, from),
-                    c: welded(t.c, to, from),
-                    part: t.part,
-                }
-            }
-            Damage::Exchanged(one, other) => Triangle {
-                a: t.a,
-                b: t.b,
-                c: t.c,
-                part: exchanged(t.part, one, other),
-            },
-            _ => t,
-        }
-    }
-}
-
-fn drop_triangle(triangles: &mut Vec<Triangle>, i: usize) {
-    if i < triangles.len() {
-        let _ = triangles.remove(i);
-    }
-}
-
-fn welded(corner: u32, to: u32, from: u32) -> u32 {
-    if corner == from { to } else { corner }
-}
-
-fn exchanged(part: u32, one: u32, other: u32) -> u32 {
-    if part == one {
-        other
-    } else if part == other {
-        one
-    } else {
-        part
     }
 }

@@ -1,213 +1,228 @@
 // What a block's points alone say of its skin: its parts, its corners and what it encloses. It calls none of the libraries.
-use crate::scan::{Point, STEPS, is_inside, is_within, place, points_of, threshold_of, value_at};
-use crate::survey::{Flooded, Place, Skin, Triangle};
-use std::alloc::{AllocError, Global};
+ghost use Rattle.std.specs.Prelude.{◌^◌, ◌<◌};
 
-// How many regions the points inside, or those outside, fall into by grid steps. A skin has an outer part for each region inside, and an
-// inner part for each region outside but the one with the border.
-pub fn count_regions(heap: Global, bytes: &[u8], inside: bool) -> Result<usize, AllocError> {
-    let mut seen = vec![in heap; false; bytes.len()]?;
+use crate::scan::{Point, STEPS, Scan, Step};
+use crate::skin::{Corner, Skin, Triangle};
+use std::alloc::{AllocError, Global};
+use std::cmp::Ordering;
+use std::mem;
+use volume::Part;
+
+// How many regions the points that belong fall into by grid steps. A skin has an outer part for each region inside, and an inner part for
+// each region outside but the one with the border.
+pub fn count_regions<F: Fn(Point) -> bool>(
+    heap: Global,
+    scan: &Scan,
+    belongs: F,
+) -> Result<usize, AllocError>
+    requires { F.IsAlwaysCallable belongs }
+{
+    // A loop, and no `map`: it is not found that a closure passed in may be called along a chain over these points.
+    let mut points = Vec::new(heap);
+    for p in scan.points() {
+        points.push(belongs(p))?;
+    }
+    let mut left = Left { scan, points };
     let mut count = 0usize;
-    for p in points_of(heap, bytes)?.iter() {
-        if enters(bytes, *p, inside, &mut seen) {
+    for p in scan.points() {
+        if left.gives(p) {
             count = count.saturating_add(1);
-            flood_from(heap, bytes, *p, inside, &mut seen)?;
+            left.flood_from(heap, p)?;
         }
     }
     Ok(count)
 }
 
-fn flood_from(
-    heap: Global,
-    bytes: &[u8],
-    first: Point,
-    inside: bool,
-    seen: &mut Vec<bool>,
-) -> Result<(), AllocError> {
-    let mut waiting = Vec::new(heap);
-    waiting.push(first)?;
-    for _ in 0..bytes.len() {
-        let Some(p) = waiting.pop() else { break };
-        for step in &STEPS {
-            if enters(bytes, p.up(*step), inside, seen) {
-                waiting.push(p.up(*step))?;
-            }
-            if enters(bytes, p.down(*step), inside, seen) {
-                waiting.push(p.down(*step))?;
-            }
-        }
-    }
-    Ok(())
+// The points of a block that belong to a region which is not counted yet.
+#[derive(Drop)]
+struct Left<'a> {
+    scan: &'a Scan,
+    points: Vec<bool>,
 }
 
-// Whether a point of the block is on the side that is asked for, and was not seen before. From now on it was.
-fn enters(bytes: &[u8], p: Point, inside: bool, seen: &mut Vec<bool>) -> bool {
-    let i = place(bytes, p);
-    if !is_within(bytes, p) || is_inside(bytes, p) != inside || i >= seen.len() || seen[i] {
-        return false;
+impl Left<'_> {
+    // Whether a point is left. From now on it is not.
+    fn gives(&mut self, p: Point) -> bool {
+        let Some(place) = self.scan.place(p) else {
+            return false
+        };
+        self.points
+            .get_mut(place)
+            .is_some_and(|left| mem::take(left))
     }
-    seen[i] = true;
-    true
+
+    fn flood_from(&mut self, heap: Global, first: Point) -> Result<(), AllocError> {
+        let mut waiting = vec![in heap; first]?;
+        // As often as there are points, since each waits once: a `while let` shows no end.
+        for _ in self.scan.points() {
+            let Some(p) = waiting.pop() else { break };
+            for step in STEPS {
+                for q in [p.up(step), p.down(step)].into_iter().flatten() {
+                    if self.gives(q) {
+                        waiting.push(q)?;
+                    }
+                }
+            }
+        }
+        Ok(())
+    }
 }
 
 // How many grid steps lead from inside to outside: a skin has a corner for each.
-pub fn count_crossings(heap: Global, bytes: &[u8]) -> Result<usize, AllocError> {
-    let mut count = 0usize;
-    for p in points_of(heap, bytes)?.iter() {
-        for step in &STEPS {
-            if is_inside(bytes, *p) != is_inside(bytes, p.up(*step)) {
-                count = count.saturating_add(1);
-            }
-        }
-    }
-    Ok(count)
+pub fn count_crossings(scan: &Scan) -> usize {
+    scan.points()
+        .map(|p| count_crossings_from(scan, p))
+        .fold(0usize, |count, more| count.saturating_add(more))
+}
+
+fn count_crossings_from(scan: &Scan, p: Point) -> usize {
+    STEPS
+        .iter()
+        .filter(|step| scan.is_inside(p) != is_inside(scan, p.up(**step)))
+        .count()
+}
+
+fn is_inside(scan: &Scan, p: Option<Point>) -> bool {
+    p.is_some_and(|p| scan.is_inside(p))
 }
 
 // Whether each grid step from inside to outside has one corner on it, where the values say, and no other step has any.
-pub fn lie_on_crossings(heap: Global, bytes: &[u8], corners: &[Place]) -> Result<bool, AllocError> {
-    for p in points_of(heap, bytes)?.iter() {
-        for step in &STEPS {
-            let q = p.up(*step);
-            let on = count_on(corners, *p, *step);
-            let right = match (is_inside(bytes, *p), is_inside(bytes, q)) {
-                (true, false) => on == 1 && corners.contains(&corner_between(bytes, *p, q)),
-                (false, true) => on == 1 && corners.contains(&corner_between(bytes, q, *p)),
-                _ => on == 0,
-            };
-            if !right {
-                return Ok(false);
-            }
-        }
-    }
-    Ok(true)
+pub fn lie_on_crossings(scan: &Scan, corners: &[Corner]) -> bool {
+    scan.points().all(|p| STEPS
+        .iter()
+        .all(|step| lie_on_step(scan, corners, p, *step)))
 }
 
-// How many corners lie strictly between the ends of a grid step up.
-fn count_on(corners: &[Place], from: Point, step: Point) -> usize {
-    let mut count = 0usize;
-    for corner in corners {
-        let x = (corner.0 as u32).wrapping_sub(256 * from.0 as u32);
-        let y = (corner.1 as u32).wrapping_sub(256 * from.1 as u32);
-        let z = (corner.2 as u32).wrapping_sub(256 * from.2 as u32);
+// The same for one grid step.
+fn lie_on_step(scan: &Scan, corners: &[Corner], p: Point, step: Step) -> bool {
+    let on = corners
+        .iter()
+        .filter(|corner| lies_on(**corner, p, step))
+        .count();
+    let Some(q) = p.up(step) else { return on == 0 };
+    let stands = |corner: Option<Corner>| corner.is_some_and(|corner| corners.contains(&corner));
+    match (scan.is_inside(p), scan.is_inside(q)) {
+        (true, false) => on == 1 && stands(corner_between(scan, p, q)),
+        (false, true) => on == 1 && stands(corner_between(scan, q, p)),
+        _ => on == 0,
+    }
+}
+
+// Whether a corner lies strictly between the ends of a grid step up.
+fn lies_on(corner: Corner, from: Point, step: Step) -> bool {
+    offset(corner, from).is_some_and(|[x, y, z]| {
         let k = x.max(y).max(z);
-        if 0 < k
-            && k < 256
-            && x == along(step.0, k)
-            && y == along(step.1, k)
-            && z == along(step.2, k)
-        {
-            count = count.saturating_add(1);
-        }
-    }
-    count
+        (1..256).contains(&k) && [x, y, z] == step.map(|axis| if axis == 0 { 0 } else { k })
+    })
 }
 
-fn along(step: u8, k: u32) -> u32 {
-    if step == 0 { 0 } else { k }
+// How far a corner lies above a point along x, y and z, in 256ths of a grid step, unless it lies below along one.
+fn offset(corner: Corner, from: Point) -> Option<[u16; 3]> {
+    Some([
+        corner.x.checked_sub(256 * u16::from(from.x))?,
+        corner.y.checked_sub(256 * u16::from(from.y))?,
+        corner.z.checked_sub(256 * u16::from(from.z))?,
+    ])
 }
 
 // Where the corner of a crossing lies: the k-th of 256 parts of the way to the point outside, for
-// k = 1 + 254 (2 (u - t) + 1) / (2 (u - v)) by the values u inside, v outside and the threshold t.
-fn corner_between(bytes: &[u8], inside: Point, outside: Point) -> Place {
-    let u = value_at(bytes, inside) as u32;
-    let v = value_at(bytes, outside) as u32;
-    let above = u.saturating_sub(threshold_of(bytes) as u32);
-    let across = u.saturating_sub(v).max(1);
-    let k = 1 + 254 * (2 * above + 1) / (2 * across);
-    let k = u8::try_from(k).unwrap_or(0);
-    Place(
-        between(inside.0, outside.0, k),
-        between(inside.1, outside.1, k),
-        between(inside.2, outside.2, k),
-    )
+// k = 1 + 254 (2 (u - t) + 1) / (2 (u - v)) by the values u inside, v outside and the threshold t. None where these are no such values.
+fn corner_between(scan: &Scan, inside: Point, outside: Point) -> Option<Corner> {
+    let u = u32::from(scan.value(inside)?);
+    let v = u32::from(scan.value(outside)?);
+    let above = u.checked_sub(u32::from(scan.threshold))?;
+    let across = u.checked_sub(v)?;
+    let k = 1 + (254 * (2 * above + 1)).checked_div(2 * across)?;
+    let k = u8::try_from(k).ok()?;
+    Some(Corner {
+        x: between(inside.x, outside.x, k),
+        y: between(inside.y, outside.y, k),
+        z: between(inside.z, outside.z, k),
+    })
 }
 
 fn between(from: u8, to: u8, k: u8) -> u16 {
-    let start = 256 * from as u16;
-    if from < to {
-        start + k as u16
-    } else if to < from {
-        start - k as u16
-    } else {
-        start
+    let start = 256 * u16::from(from);
+    match from.cmp(&to) {
+        Ordering::Less => start + u16::from(k),
+        Ordering::Equal => start,
+        Ordering::Greater => start - u16::from(k),
     }
 }
 
 // Whether no two corners are at one place.
-pub fn lie_apart(corners: &[Place]) -> bool {
-    for (i, p) in corners.iter().enumerate() {
-        for q in corners.iter().take(i) {
-            if *p == *q {
-                return false;
+pub fn lie_apart(corners: &[Corner]) -> bool {
+    corners
+        .iter()
+        .enumerate()
+        .all(|(i, corner)| !corners[..i].contains(corner))
+}
+
+// Six times what all triangles of a skin enclose. The sum wraps, since how many triangles there are is not bounded here.
+pub fn six_volumes(skin: &Skin) -> i64 {
+    skin.triangles
+        .iter()
+        .fold(0i64, |sum, t| sum.wrapping_add(determinant(skin, *t)))
+}
+
+// The parts of a skin by flooding, and what the triangles of each sum up to.
+pub fn parts_of(heap: Global, skin: &Skin) -> Result<Vec<Part>, AllocError> {
+    let flooded = skin.flood(heap)?;
+    let mut sums = vec![in heap; Sum::default(); flooded.count as usize]?;
+    for (t, number) in skin.triangles.iter().zip(flooded.numbers.iter()) {
+        if let Some(number) = *number {
+            if let Some(sum) = sums.get_mut(number as usize) {
+                sum.add(determinant(skin, *t));
             }
         }
     }
-    true
+    sums.iter().map(|sum| Part::from(*sum)).collect(heap)
 }
 
 // How many triangles a part has, and six times what they enclose.
-#[derive(Clone, Copy)]
-pub struct Sum {
-    pub triangles: u32,
-    pub six_volumes: i64,
-}
-
-// What all triangles of a skin sum up to.
-pub fn sum_of_all(skin: &Skin) -> Sum {
-    let mut sum = Sum {
-        triangles: 0,
-        six_volumes: 0,
-    };
-    for t in skin.triangles.iter() {
-        sum = sum.with(determinant(skin, *t));
-    }
-    sum
-}
-
-// What the triangles of a part, by flooding, sum up to.
-pub fn sum_of_part(skin: &Skin, flooded: &Flooded, part: u32) -> Sum {
-    let mut sum = Sum {
-        triangles: 0,
-        six_volumes: 0,
-    };
-    for (i, t) in skin.triangles.iter().enumerate() {
-        if flooded.number(i) == Some(part) {
-            sum = sum.with(determinant(skin, *t));
-        }
-    }
-    sum
+#[derive(Clone, Copy, Default)]
+struct Sum {
+    triangles: u32,
+    six_volumes: i64,
 }
 
 impl Sum {
-    fn with(self, determinant: i64) -> Sum {
-        Sum {
-            triangles: self.triangles.saturating_add(1),
-            six_volumes: self.six_volumes.wrapping_add(determinant),
+    fn add(&mut self, determinant: i64) {
+        self.triangles = self.triangles.saturating_add(1);
+        self.six_volumes = self.six_volumes.wrapping_add(determinant);
+    }
+}
+
+impl From<Sum> for Part {
+    fn from(sum: Sum) -> Part {
+        let Sum {
+            triangles,
+            six_volumes,
+        } = sum;
+        if six_volumes > 0 {
+            Part::Outer {
+                triangles,
+                six_volumes,
+            }
+        } else {
+            Part::Inner {
+                triangles,
+                six_volumes,
+            }
         }
     }
 }
 
-// The six products of three places, with their signs. They are below 2 to the 48, so nothing wraps.
+// The six products of three places, with their signs.
 fn determinant(skin: &Skin, t: Triangle) -> i64 {
-    let a = place_of(skin, t.a);
-    let b = place_of(skin, t.b);
-    let c = place_of(skin, t.c);
-    let even = product(a.0, b.1, c.2)
-        .wrapping_add(product(a.1, b.2, c.0))
-        .wrapping_add(product(a.2, b.0, c.1));
-    let odd = product(a.0, b.2, c.1)
-        .wrapping_add(product(a.1, b.0, c.2))
-        .wrapping_add(product(a.2, b.1, c.0));
-    even.wrapping_sub(odd)
+    let [a, b, c] = t.corners.map(|number| skin.corner(number));
+    let even = product(a.x, b.y, c.z) + product(a.y, b.z, c.x) + product(a.z, b.x, c.y);
+    let odd = product(a.x, b.z, c.y) + product(a.y, b.x, c.z) + product(a.z, b.y, c.x);
+    even as i64 - odd as i64
 }
 
-fn product(x: u16, y: u16, z: u16) -> i64 {
-    (x as i64).wrapping_mul(y as i64).wrapping_mul(z as i64)
-}
-
-fn place_of(skin: &Skin, corner: u32) -> Place {
-    skin.corners
-        .get(corner as usize)
-        .copied()
-        .unwrap_or(Place(0, 0, 0))
+fn product(x: u16, y: u16, z: u16) -> u64
+    ensures bound { result < 2 ^ 48 }
+{
+    u64::from(x) * (u64::from(y) * u64::from(z))
 }

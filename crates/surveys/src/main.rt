@@ -1,7 +1,7 @@
 // Trials of what is also proved: random blocks beside a slow, plain search, and damaged skins. Status 1 if anything is not as expected.
 #![tactic(auto)]
 
-use anyhow::anyhow;
+use anyhow::ensure;
 
 mod at_random;
 mod blocks;
@@ -11,6 +11,7 @@ mod expected;
 mod made;
 mod random;
 mod scan;
+mod skin;
 mod survey;
 
 fn main(rt: HostRuntime) -> anyhow::Result<()> {
@@ -19,8 +20,6 @@ fn main(rt: HostRuntime) -> anyhow::Result<()> {
     let at_random = at_random::run(&rt)?;
     let differences = blocks.saturating_add(by_hand).saturating_add(at_random);
     println!(rt; "differences {differences}")?;
-    if differences > 0 {
-        return Err(anyhow!("the trials differ"));
-    }
+    ensure!(differences == 0, "the trials differ");
     Ok(())
 }

@@ -1,103 +1,160 @@
-// A block for the trials: bytes with points put into them, and what each point holds. It calls none of the libraries.
+// A block as the surveys make it and look at it: what each of its points holds. It calls none of the libraries.
+ghost use Rattle.std.specs.Iterator.{at_most};
+
 use std::alloc::{AllocError, Global};
 
 // A point by its places along x, y and z.
 #[derive(Clone, Copy)]
-pub struct Point(pub u8, pub u8, pub u8);
+pub struct Point {
+    pub x: u8,
+    pub y: u8,
+    pub z: u8,
+}
+
+// A step up along some of x, y and z.
+pub type Step = [u8; 3];
 
 // The seven steps up from a point: by one axis, two or three at a time.
-pub const STEPS: [Point; 7] = [
-    Point(1, 0, 0),
-    Point(0, 1, 0),
-    Point(1, 1, 0),
-    Point(0, 0, 1),
-    Point(1, 0, 1),
-    Point(0, 1, 1),
-    Point(1, 1, 1),
+pub const STEPS: [Step; 7] = [
+    [1, 0, 0],
+    [0, 1, 0],
+    [1, 1, 0],
+    [0, 0, 1],
+    [1, 0, 1],
+    [0, 1, 1],
+    [1, 1, 1],
 ];
 
 impl Point {
-    // Where a step up leads; past the last place along an axis it leads to no point of a block.
-    pub fn up(self, step: Point) -> Point {
-        Point(
-            self.0.wrapping_add(step.0),
-            self.1.wrapping_add(step.1),
-            self.2.wrapping_add(step.2),
-        )
+    // Where a step up leads, unless past what a point can say.
+    pub fn up(self, step: Step) -> Option<Point> {
+        self.moved(step, |at, by| at.checked_add(by))
     }
 
-    // Where a step down leads; before the first place along an axis it leads to no point of a block.
-    pub fn down(self, step: Point) -> Point {
-        Point(
-            self.0.wrapping_sub(step.0),
-            self.1.wrapping_sub(step.1),
-            self.2.wrapping_sub(step.2),
-        )
+    // Where a step down leads, unless before the first place along an axis.
+    pub fn down(self, step: Step) -> Option<Point> {
+        self.moved(step, |at, by| at.checked_sub(by))
+    }
+
+    fn moved<F: Fn(u8, u8) -> Option<u8>>(self, step: Step, go: F) -> Option<Point>
+        requires { F.IsAlwaysCallable go }
+    {
+        let [x, y, z] = step;
+        Some(Point {
+            x: go(self.x, x)?,
+            y: go(self.y, y)?,
+            z: go(self.z, z)?,
+        })
     }
 }
 
-// A block with the value 0 at every point.
-pub fn blank(heap: Global, size: Point, threshold: u8) -> Result<Vec<u8>, AllocError> {
-    let Point(a, b, c) = size;
-    let mut bytes = vec![in heap; 0u8; 4 + a as usize * (b as usize * c as usize)]?;
-    set(&mut bytes, 0, a);
-    set(&mut bytes, 1, b);
-    set(&mut bytes, 2, c);
-    set(&mut bytes, 3, threshold);
-    Ok(bytes)
+// How many points a block has along x, y and z.
+#[derive(Clone, Copy)]
+pub struct Size {
+    pub x: u8,
+    pub y: u8,
+    pub z: u8,
 }
 
-pub fn put(bytes: &mut Vec<u8>, p: Point, value: u8) {
-    let i = place(bytes.as_slice(), p);
-    set(bytes, i, value);
-}
-
-pub fn size_of(bytes: &[u8]) -> Point {
-    Point(byte_at(bytes, 0), byte_at(bytes, 1), byte_at(bytes, 2))
-}
-
-pub fn threshold_of(bytes: &[u8]) -> u8 {
-    byte_at(bytes, 3)
-}
-
-pub fn value_at(bytes: &[u8], p: Point) -> u8 {
-    byte_at(bytes, place(bytes, p))
-}
-
-pub fn is_within(bytes: &[u8], p: Point) -> bool {
-    let Point(a, b, c) = size_of(bytes);
-    p.0 < a && p.1 < b && p.2 < c
-}
-
-pub fn is_inside(bytes: &[u8], p: Point) -> bool {
-    is_within(bytes, p) && value_at(bytes, p) >= threshold_of(bytes)
-}
-
-// Every point of a block, in the order of its bytes.
-pub fn points_of(heap: Global, bytes: &[u8]) -> Result<Vec<Point>, AllocError> {
-    let Point(a, b, c) = size_of(bytes);
-    let mut points = Vec::new(heap);
-    for z in 0..c {
-        for y in 0..b {
-            for x in 0..a {
-                points.push(Point(x, y, z))?;
-            }
+impl Size {
+    // Every point of a block, in the order of its bytes.
+    pub fn points(self) -> Points {
+        Points {
+            size: self,
+            next: Point { x: 0, y: 0, z: 0 },
+            left: usize::from(self.x) * (usize::from(self.y) * usize::from(self.z)),
         }
     }
-    Ok(points)
+
+    // How many steps a point is from the border.
+    pub fn depth(self, p: Point) -> u8 {
+        let [x, y, z] = [(p.x, self.x), (p.y, self.y), (p.z, self.z)].map(|(at, count)| count
+            .saturating_sub(1)
+            .saturating_sub(at)
+            .min(at));
+        x.min(y).min(z)
+    }
+
+    // The place of a point in the order, if it is in the block.
+    fn place(self, p: Point) -> Option<usize> {
+        if p.x < self.x && p.y < self.y && p.z < self.z {
+            let row = usize::from(p.y) + usize::from(self.y) * usize::from(p.z);
+            Some(usize::from(p.x) + usize::from(self.x) * row)
+        } else {
+            None
+        }
+    }
+
+    // The point after this one in the order.
+    fn after(self, p: Point) -> Point {
+        let x = p.x.saturating_add(1);
+        if x < self.x {
+            return Point { x, ..p };
+        }
+        let y = p.y.saturating_add(1);
+        if y < self.y {
+            return Point { x: 0, y, z: p.z };
+        }
+        Point {
+            x: 0,
+            y: 0,
+            z: p.z.saturating_add(1),
+        }
+    }
 }
 
-pub fn place(bytes: &[u8], p: Point) -> usize {
-    let Point(a, b, _) = size_of(bytes);
-    4 + p.0 as usize + a as usize * (p.1 as usize + b as usize * p.2 as usize)
+// The points of a block that are still to come.
+#[derive(Clone, Copy)]
+pub struct Points {
+    size: Size,
+    next: Point,
+    left: usize,
 }
 
-pub fn byte_at(bytes: &[u8], i: usize) -> u8 {
-    bytes.get(i).copied().unwrap_or(0)
+impl Iterator for Points {
+    type Item = Point;
+
+    ghost remaining = { λ s. at_most s.left };
+
+    fn next(&mut self) -> Option<Point> {
+        self.left = self.left.checked_sub(1)?;
+        let point = self.next;
+        self.next = self.size.after(point);
+        Some(point)
+    }
 }
 
-pub fn set(bytes: &mut Vec<u8>, i: usize, value: u8) {
-    if i < bytes.len() {
-        bytes[i] = value;
+// Sizes, the threshold, and a value for each point.
+#[derive(Drop)]
+pub struct Scan {
+    pub size: Size,
+    pub threshold: u8,
+    pub values: Vec<u8>,
+}
+
+impl Scan {
+    // The block's bytes.
+    pub fn bytes(&self, heap: Global) -> Result<Vec<u8>, AllocError> {
+        let Size { x, y, z } = self.size;
+        let mut bytes = vec![in heap; x, y, z, self.threshold]?;
+        bytes.extend_from_slice(self.values.as_slice())?;
+        Ok(bytes)
+    }
+
+    pub fn points(&self) -> Points {
+        self.size.points()
+    }
+
+    // Where a point's value stands, if it is in the block.
+    pub fn place(&self, p: Point) -> Option<usize> {
+        self.size.place(p)
+    }
+
+    pub fn value(&self, p: Point) -> Option<u8> {
+        self.values.get(self.place(p)?).copied()
+    }
+
+    pub fn is_inside(&self, p: Point) -> bool {
+        self.value(p).is_some_and(|value| value >= self.threshold)
     }
 }

@@ -7,3 +7,4 @@ pub mod Turning
 pub mod Keeping
 pub mod Enclosing
 pub mod Telling
+pub mod Chunks

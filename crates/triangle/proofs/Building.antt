@@ -1,9 +1,6 @@
 -- What was counted is what the skin has, so the lengths that are compared give the verdict, and the room. Assumes nothing.
 use Rattle.std.proofs.Common.{◌≡◌, ℕ, ◌-◌, ◌*◌, ◌/◌, ◌<◌, ◌≤◌, List, length, Some, None, sym, ap, ◌∙◌, subst, arith}
 use Rattle.std.proofs.lemmas.Bool.{lt-ltb, le-ltb, cond-true, cond-false}
-use Rattle.theory.specs.Grid.{pt}
-use Rattle.theory_numbers.specs.Numbers.{corners_met}
-use Rattle.theory_numbers.proofs.Order.{in_order}
 use Rattle.theory_numbers.proofs.Six.{at_most_six}
 use Rattle.block.specs.Scan.{size_x, size_y, size_z, inside, first_of, Taken}
 use Rattle.block.specs.declared.refusal.Refusal.TheVariants.{ShortBuffer}
@@ -11,28 +8,21 @@ use Rattle.triangle.specs.Progress.{skin_of, corners_of, Room}
 use Rattle.triangle.specs.Counting.{Counted}
 use Rattle.triangle.specs.Built.{short_buffer, verdict}
 use Rattle.triangle.specs.declared.Counts.{Counts}
-
--- all cubes of a block are counted
-abbrev AllCounted : Counts → List ℕ → Type 0
-AllCounted r bs = Counted bs (pt 0 0 0) (pt 0 0 (size_z bs - 1)) (9025 * (size_z bs - 1)) r
+use Rattle.triangle.proofs.Fronts.{cubes_few, skin_few}
 
 -- the block that was read has the bytes that were given
-module _ (given bs : List ℕ) (read : (given ≡ bs) × Taken bs) (r : Counts) (all : AllCounted r given) where
+module _ (given bs : List ℕ) (read : (given ≡ bs) × Taken bs) (r : Counts) (all : Counted given r r (skin_of given)) where
   taken : Taken bs
   taken = read.1
 
-  counted : AllCounted r bs
-  counted = subst (AllCounted r) read.0 all
+  counted : Counted bs r r (skin_of bs)
+  counted = subst (λ bs. Counted bs r r (skin_of bs)) read.0 all
 
   pub corner_count : r.corners ≡ length (corners_of bs)
-  corner_count =
-      let o = in_order (inside bs) (size_x bs - 1) (size_y bs - 1) in
-      omega (arith, counted.corners, ap (λ ts. length (corners_met ts)) (o.end (size_z bs - 1)), ap (λ ts. length (corners_met ts)) o.start)
+  corner_count = counted.corners
 
   pub triangle_count : r.triangles ≡ length (skin_of bs)
-  triangle_count =
-      let o = in_order (inside bs) (size_x bs - 1) (size_y bs - 1) in
-      omega (arith, counted.triangles, ap length (o.end (size_z bs - 1)), ap length o.start)
+  triangle_count = counted.triangles
 
   pub few : r.corners ≤ 6 * ((size_x bs - 1) * (size_y bs - 1) * (size_z bs - 1))
   few = subst (λ n. n ≤ 6 * ((size_x bs - 1) * (size_y bs - 1) * (size_z bs - 1))) (sym corner_count) (at_most_six (inside bs) (size_x bs - 1) (size_y bs - 1) (size_z bs - 1) taken.border)
@@ -67,14 +57,12 @@ module _ (given bs : List ℕ) (read : (given ≡ bs) × Taken bs) (r : Counts) 
           ∙ cond-false _ _ _ (le-ltb (triangles / 4) (length (skin_of bs)) (omega (arith, triangle_count)))
           ∙ cond-false _ _ _ (le-ltb work (6 * (size_x bs * (size_y bs * size_z bs))) long_work)
 
-      pub ready : Taken given × Room given corners triangles work
-      ready = subst (λ bs. Taken bs × Room bs corners triangles work) (sym read.0) (
-        taken,
-        record {
-          for_corners = omega (arith, corner_count);
-          for_triangles = omega (arith, triangle_count);
-          for_work = long_work;
-          corner_numbers = omega (arith, corner_count, counted.few_corners, taken.good.z_size);
-          triangle_numbers = omega (arith, triangle_count, counted.few_triangles, taken.good.z_size);
-        },
-      )
+      pub ready : Room given corners triangles work
+      ready = subst (λ bs. Room bs corners triangles work) (sym read.0)
+          record {
+            for_corners = omega (arith, corner_count);
+            for_triangles = omega (arith, triangle_count);
+            for_work = long_work;
+            corner_numbers = omega (arith, corner_count, few, cubes_few bs taken);
+            triangle_numbers = omega (arith, skin_few bs taken);
+          }

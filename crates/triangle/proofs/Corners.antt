@@ -1,63 +1,45 @@
--- The corner of a cube that the code has chosen is that of the definition, and its number is found in `work`, found in `top`, or new.
--- Assumes nothing.
-use Rattle.std.proofs.Common.{◌≡◌, ℕ, suc, ◌+◌, ◌-◌, ◌*◌, ◌<◌, ◌≤◌, Bool, true, false, ◌≢◌, List, get_or, Some, None, sym, refl, ap, ◌∙◌, subst, subst₂, ⊎_elim, arith}
+-- The corners of a cube by the points between which they lie: the upper ends of their edges, their steps, and which of them were met before
+-- the cube. Assumes nothing.
+use Rattle.std.proofs.Common.{◌≡◌, ℕ, suc, ◌+◌, ◌-◌, ◌<◌, Bool, true, false, ◌&&◌, eqb, ltb, List, [], ◌∷◌, map, length, get_or, drop, sym, refl, ap, ◌∙◌, subst, inl, inr, ⊎_elim, arith}
 use lib.Bits.{bit_or, bit_xor}
-use Rattle.std.proofs.lemmas.Bool.{true≢false}
+use Rattle.std.proofs.ByRecursion.{All-weaker}
+use Rattle.std.proofs.lemmas.List.{drop_more}
+use Rattle.std.proofs.lemmas.Bool.{and_parts, both_ways, cases_Bool, cases_lt, cond_both, eqb-true, eq-eqb}
+use Rattle.std.specs.List.{flat_map, AllByRecursion}
 use Rattle.theory.specs.Grid.{Point, pt, Offset, off, highest, raised, ◌⊕◌}
-use Rattle.theory.specs.Triangle.{edge, has, times, with_corner}
+use Rattle.theory.specs.Triangle.{Edge, edge, Tri, tri, has, times, corners, with_corner}
 use Rattle.theory.specs.Skin.{Corner, same, cube}
+use Rattle.theory.specs.Faces.{renamed}
+use Rattle.theory.proofs.Same.{same_true, same_refl}
 use Rattle.theory.proofs.Sums.{sum_skin}
 use Rattle.theory.proofs.Rings.{parted}
-use Rattle.theory_numbers.specs.Numbers.{index_of}
+use Rattle.theory_numbers.specs.Numbers.{corners_met}
 use Rattle.theory_numbers.specs.Order.{upper}
 use Rattle.theory_numbers.proofs.Cubes.{over_cubes_has}
-use Rattle.theory_numbers.proofs.Meeting.{as_they_are_met, meet_known, meet_new}
+use Rattle.theory_numbers.proofs.Firsts.{every_stands, with_corner_times}
+use Rattle.theory_numbers.proofs.Numbered.{met_had}
+use Rattle.theory_numbers.proofs.Order.{first_met}
 use Rattle.block.specs.Scan.{size_x, size_y, size_z, inside}
-use Rattle.grid.specs.Numbers.{number_of}
-use Rattle.piece.specs.Table.{bit, offset_at}
-use Rattle.triangle.specs.Cubes.{lowest_of, point_in, corner_at, corner_in_piece, OfBlock, Crosses, EndsOf}
-use Rattle.triangle.specs.Slots.{step_of, slot}
-use Rattle.triangle.specs.Output.{with_corner_met, Crossing, Found, Knows, RoomForCorners, Meets}
+use Rattle.piece.specs.Table.{offset_at}
+use Rattle.triangle.specs.Cubes.{lowest_of, point_in, corner_at, on_points, OfBlock}
+use Rattle.triangle.specs.Cases.{cube_table, edges_in, new_steps}
+use Rattle.triangle.specs.Slots.{step_of}
+use Rattle.triangle.specs.Output.{noted, with_corner_met, new_corner, met_by, NewIn, Crossing}
+use Rattle.triangle.specs.Progress.{earlier}
 use Rattle.triangle.specs.declared.cube.Cube.{Cube}
 use Rattle.triangle.specs.declared.write.Out.{Out}
 use Rattle.triangle.proofs.Slots.{step_at, upper_at}
-use Rattle.triangle.proofs.Tables.{PairFacts, pair_facts, not_highest}
-use Rattle.triangle.proofs.Growth.{met_more}
+use Rattle.triangle.proofs.Tables.{at_below, pair_facts, not_highest}
+use Rattle.triangle.proofs.Computed.{every_with, EdgeFacts, EdgeOf, case_facts, new_step_at}
+use Rattle.triangle.proofs.Pieces.{cube_by_table}
 
 -- each corner of a cube of the block crosses
 pub cube_crosses : (bs : List ℕ) (k : Cube) → OfBlock bs k → (d : Corner) → 0 < with_corner same d (cube (inside bs) (lowest_of k)) → Crossing bs d
 cube_crosses bs k h (edge p q) m =
     let f = inside bs in
     let x = size_x bs - 1 in let y = size_y bs - 1 in let z = size_z bs - 1 in
-    let some = over_cubes_has x y z (λ p'. with_corner same (edge p q) (cube f p')) k.x k.y k.z (omega (arith, h.along_x)) (omega (arith, h.along_y)) (omega (arith, h.along_z)) in
+    let some = over_cubes_has x y z (λ p'. with_corner same (edge p q) (cube f p')) k.lowest.x k.lowest.y k.lowest.z (omega (arith, h.along_x)) (omega (arith, h.along_y)) (omega (arith, h.along_z)) in
     (parted f x y z h.taken.border p q).0 (omega (arith, sum_skin (has same (edge p q)) f x y z))
-
--- a corner of a triangle, by the numbers of its points
-pub record Chosen (bs : List ℕ) (k : Cube) (c : Corner) (p q : ℕ) : Type 0 where
-  pub crosses : Crosses bs k p q
-  pub is : c ≡ corner_at k p q
-  pub facts : PairFacts p q
-  pub positive : 0 < bit_xor p q
-
-pub chosen : (bs : List ℕ) (k : Cube) (w n i p q : ℕ) → OfBlock bs k → EndsOf k w n i p q → Chosen bs k (corner_in_piece k w n i) p q
-chosen bs k w n i p q h e =
-    record { crosses = here; is = e.is; facts = facts; positive = ⊎_elim (λ same_point. absurd (apart same_point)) (λ l. l) facts.differ }
-  where
-    here : Crosses bs k p q
-    here =
-        record {
-          cube = h;
-          from = e.from;
-          to = e.to;
-          starts_inside = sym (h.bits p e.from) ∙ e.starts;
-          ends_outside = sym (h.bits q e.to) ∙ e.ends;
-        }
-
-    facts : PairFacts p q
-    facts = pair_facts p q e.from e.to
-
-    apart : p ≢ q
-    apart d = true≢false (sym e.starts ∙ ap (bit k.bits) d ∙ e.ends)
 
 raised_true : (b : Bool) (n : ℕ) → raised b n ≡ suc n → b ≡ true
 raised_true true n e = refl
@@ -70,75 +52,114 @@ highest_only (pt x y z) (off a b c) e =
     let r : raised c z ≡ suc z = cc in
     λ i. off (raised_true a x p i) (raised_true b y q i) (raised_true c z r i)
 
-module _ (bs : List ℕ) (k : Cube) (p q : ℕ) (ch : Chosen bs k (corner_at k p q) p q) where
-  pub upper_is : upper (corner_at k p q) ≡ point_in k (bit_or p q)
-  upper_is = upper_at (lowest_of k) (offset_at p) (offset_at q) ∙ ap (λ o. lowest_of k ⊕ o) (sym ch.facts.upper)
+module _ (k : Cube) where
+  pub upper_is : (p q : ℕ) → p < 8 → q < 8 → upper (corner_at k p q) ≡ point_in k (bit_or p q)
+  upper_is p q lp lq = upper_at (lowest_of k) (offset_at p) (offset_at q) ∙ ap (λ o. lowest_of k ⊕ o) (sym (pair_facts p q lp lq).upper)
 
-  pub step_is : step_of (corner_at k p q) ≡ bit_xor p q
-  step_is = step_at (lowest_of k) (offset_at p) (offset_at q) ∙ ch.facts.step
+  pub step_is : (p q : ℕ) → p < 8 → q < 8 → step_of (corner_at k p q) ≡ bit_xor p q
+  step_is p q lp lq = step_at (lowest_of k) (offset_at p) (offset_at q) ∙ (pair_facts p q lp lq).step
 
-  pub ends_top : 7 ≤ bit_or p q → upper (corner_at k p q) ≡ lowest_of k ⊕ highest
-  ends_top h = upper_is ∙ ap (point_in k) (⊎_elim (λ e. e) (λ l. absurd (omega (arith, l.0))) ch.facts.top)
+  -- the two points of an edge to the highest one
+  to_top : (s : ℕ) → s < 8 → (bit_or (7 - s) 7 ≡ 7) × (bit_or 7 (7 - s) ≡ 7) × (bit_xor (7 - s) 7 ≡ s) × (bit_xor 7 (7 - s) ≡ s)
+  to_top s l =
+      let t =
+      at_below 8 (λ s. eqb (bit_or (7 - s) 7) 7 && (eqb (bit_or 7 (7 - s)) 7 && (eqb (bit_xor (7 - s) 7) s && eqb (bit_xor 7 (7 - s)) s))) refl s l in
+      let a = and_parts (eqb (bit_or (7 - s) 7) 7) _ t in
+      let b = and_parts (eqb (bit_or 7 (7 - s)) 7) _ a.1 in
+      let c = and_parts (eqb (bit_xor (7 - s) 7) s) _ b.1 in
+      (eqb-true _ 7 a.0, eqb-true _ 7 b.0, eqb-true _ s c.0, eqb-true _ s c.1)
 
-  meets_known :
-      (o : Out) (r : ℕ) → bit_or p q < 7 →
-      r ≡ get_or o.work.now (6 * number_of (size_x bs) (size_y bs) (point_in k (bit_or p q)) + (bit_xor p q - 1)) 0 →
-      Meets bs k (corner_at k p q) o o r
-  meets_known o r low e old met ts kn m room =
+  pub upper_new : (s : ℕ) → s < 8 → upper (new_corner k s) ≡ lowest_of k ⊕ highest
+  upper_new s l =
+      cond_both (ltb k.bits 128) _ _ (λ e. upper (on_points (point_in k) e) ≡ lowest_of k ⊕ highest)
+      (λ _. upper_is (7 - s) 7 (omega arith) (omega arith) ∙ ap (point_in k) (to_top s l).0)
+      (λ _. upper_is 7 (7 - s) (omega arith) (omega arith) ∙ ap (point_in k) (to_top s l).1)
+
+  pub step_new : (s : ℕ) → s < 8 → step_of (new_corner k s) ≡ s
+  step_new s l =
+      cond_both (ltb k.bits 128) _ _ (λ e. step_of (on_points (point_in k) e) ≡ s)
+      (λ _. step_is (7 - s) 7 (omega arith) (omega arith) ∙ (to_top s l).2)
+      (λ _. step_is 7 (7 - s) (omega arith) (omega arith) ∙ (to_top s l).3)
+
+  -- new corners are one where their steps are
+  pub same_new : (s t : ℕ) → s < 8 → t < 8 → same (new_corner k s) (new_corner k t) ≡ eqb s t
+  same_new s t ls lt =
+      elim (cases_Bool (eqb s t)) [
+        | inl e ↦ subst (λ t. same (new_corner k s) (new_corner k t) ≡ true) (eqb-true s t e) (same_refl (new_corner k s)) ∙ sym e
+        | inr e ↦
+            elim (cases_Bool (same (new_corner k s) (new_corner k t))) [
+              | inl d ↦ absurd (both_ways (eqb s t) e (eq-eqb s t (sym (step_new s ls) ∙ ap step_of (same_true _ _ d) ∙ step_new t lt)))
+              | inr d ↦ d ∙ sym e
+            ]
+      ]
+
+-- the corners of moved triangles
+pub corners_moved :
+    {P Q : Type 0} (g : P → Q) (ts : List (Tri (Edge P))) → flat_map corners (map (renamed g) ts) ≡ map (on_points g) (flat_map corners ts)
+corners_moved g [] = refl
+corners_moved g (tri (edge a b) (edge c d) (edge e h) ∷ ts) =
+    ap (λ es. edge (g a) (g b) ∷ edge (g c) (g d) ∷ edge (g e) (g h) ∷ es) (corners_moved g ts)
+
+every_unmapped : {A B : Type 0} (P : B → Type 0) (g : A → B) (xs : List A) → AllByRecursion P (map g xs) → AllByRecursion (λ x. P (g x)) xs
+every_unmapped P g [] e = tt
+every_unmapped P g (x ∷ xs) e = (e.0, every_unmapped P g xs e.1)
+
+-- a corner of a cube, by the points between which it lies
+pub record CornerFacts (bs : List ℕ) (k : Cube) (p q : ℕ) : Type 0 where
+  pub facts : EdgeFacts k.bits p q
+  pub crossing : Crossing bs (corner_at k p q)
+  pub known : bit_or p q < 7 → 0 < times same (corner_at k p q) (corners_met (earlier bs (lowest_of k)))
+  pub new : bit_or p q ≡ 7 → times same (corner_at k p q) (corners_met (earlier bs (lowest_of k))) ≡ 0
+
+abbrev pub CornerOf : List ℕ → Cube → Edge ℕ → Type 0
+CornerOf bs k (edge p q) = CornerFacts bs k p q
+
+module _ (bs : List ℕ) (k : Cube) (h : OfBlock bs k) where
+  abbrev f : Point → Bool
+  f = inside bs
+
+  abbrev l : Point
+  l = lowest_of k
+
+  in_cube : AllByRecursion (λ e. 0 < with_corner same (on_points (point_in k) e) (cube f l)) (edges_in k.bits)
+  in_cube =
+      every_unmapped (λ c. 0 < with_corner same c (cube f l)) (on_points (point_in k)) (edges_in k.bits)
+      (subst (AllByRecursion (λ c. 0 < with_corner same c (cube f l)))
+      (ap (flat_map corners) (cube_by_table bs k h) ∙ corners_moved (point_in k) (cube_table k.bits))
+      (All-weaker _ _ (λ c m. let w = with_corner_times same c (cube f l) in omega arith) (flat_map corners (cube f l))
+      (every_stands same same_true same_refl (flat_map corners (cube f l)))))
+
+  corner_facts : (e : Edge ℕ) → EdgeOf k.bits e → 0 < with_corner same (on_points (point_in k) e) (cube f l) → CornerOf bs k e
+  corner_facts (edge p q) t m =
       let c = corner_at k p q in
-      let not_top : upper c ≢ lowest_of k ⊕ highest = λ u. not_highest (bit_or p q) low (highest_only (lowest_of k) (offset_at (bit_or p q)) (sym upper_is ∙ u)) in
-      let before : 0 < times same c met = kn.known c m not_top in
-      let short : step_of c < 7 = ⊎_elim (λ t. absurd (omega arith)) (λ t. subst (λ s. s < 7) (sym step_is) t.1) ch.facts.top in
-      let same_Met = meet_known same met c before in
-      let at_slot : slot bs c ≡ 6 * number_of (size_x bs) (size_y bs) (point_in k (bit_or p q)) + (bit_xor p q - 1) =
-      λ i. 6 * number_of (size_x bs) (size_y bs) (upper_is i) + (step_is i - 1) in (
-        subst (λ ms. Knows bs (lowest_of k) old o ms ts) (sym same_Met) kn,
-        e ∙ ap (λ n. get_or o.work.now n 0) (sym at_slot)
-            ∙ kn.holds.kept c before short ∙ ap (index_of same c) (sym same_Met),
-      )
+      let E = earlier bs l in
+      let first = first_met f (size_x bs - 1) (size_y bs - 1) (size_z bs - 1) k.lowest.x k.lowest.y k.lowest.z h.taken.border
+      (omega (arith, h.along_x)) (omega (arith, h.along_y)) (omega (arith, h.along_z)) c m in
+      let up : upper c ≡ point_in k (bit_or p q) = upper_is k p q t.from t.to in
+      record {
+        facts = t;
+        crossing = cube_crosses bs k h c m;
+        known = λ low. (met_had c E).1 (first.known (λ u. not_highest (bit_or p q) low (highest_only l (offset_at (bit_or p q)) (sym up ∙ u))));
+        new =
+            λ e.
+            let z = first.new (up ∙ ap (point_in k) e) in
+            ⊎_elim (λ some. absurd (omega (arith, (met_had c E).0 some))) (λ none. omega arith) (cases_lt 0 (times same c (corners_met E)));
+      }
 
-  meets_found : (o : Out) (r : ℕ) → 7 ≤ bit_or p q → get_or o.top (bit_xor p q) None ≡ Some r → Meets bs k (corner_at k p q) o o r
-  meets_found o r high e old met ts kn m room =
-      let c = corner_at k p q in
-      let f : Found (Some r) c met = subst (λ t. Found t c met) (ap (λ s. get_or o.top s None) step_is ∙ e) (kn.new c m (ends_top high)) in
-      let same_Met = meet_known same met c f.0 in
-      (subst (λ ms. Knows bs (lowest_of k) old o ms ts) (sym same_Met) kn, f.1 ∙ ap (index_of same c) (sym same_Met))
+  pub cube_corners : AllByRecursion (CornerOf bs k) (edges_in k.bits)
+  cube_corners = every_with _ _ _ corner_facts (edges_in k.bits) (case_facts k.bits h.byte).edges in_cube
 
-  meets_new :
-      (o : Out) → 7 ≤ bit_or p q → get_or o.top (bit_xor p q) None ≡ None →
-      Meets bs k (corner_at k p q) o (with_corner_met bs o (corner_at k p q)) o.met
-  meets_new o high e old met ts kn m room =
-      let c = corner_at k p q in
-      let cube = ch.crosses.cube in
-      let fresh : times same c met ≡ 0 = subst (λ t. Found t c met) (ap (λ s. get_or o.top s None) step_is ∙ e) (kn.new c m (ends_top high)) in
-      let put-behind = meet_new same met c fresh in
-      let eight : step_of c < 8 = subst (λ s. s < 8) (sym step_is) ch.facts.step_below in (
-        subst (λ ms. Knows bs (lowest_of k) old (with_corner_met bs o c) ms ts) (sym put-behind)
-            (met_more bs cube.taken (lowest_of k) old o met ts kn c (cube_crosses bs k cube c m) (ends_top high) fresh eight m (cube_crosses bs k cube)
-            (subst (RoomForCorners old) put-behind room)),
-        kn.holds.corner_count ∙ sym (as_they_are_met.new_number met c fresh),
-      )
+-- one of the corners that are first met in a cube
+pub new_at :
+    (bs : List ℕ) (k : Cube) → OfBlock bs k → (i : ℕ) → i < length (new_steps k.bits) → NewIn bs k (get_or (new_steps k.bits) i 0)
+new_at bs k h i l =
+    let t = new_step_at k.bits h.byte i l in
+    record { cube = h; above = t.above; below = t.below; parted = t.parted; upper = upper_new k _ t.below; step = step_new k _ t.below }
 
--- the same of the corner of the definition
-module _ (bs : List ℕ) (k : Cube) (c : Corner) (p q : ℕ) (ch : Chosen bs k c p q) where
-  here : Chosen bs k (corner_at k p q) p q
-  here = record { crosses = ch.crosses; is = refl; facts = ch.facts; positive = ch.positive }
-
-  pub corner_known :
-      (o o' : Out) (r : ℕ) → bit_or p q < 7 →
-      r ≡ get_or o.work.now (6 * number_of (size_x bs) (size_y bs) (point_in k (bit_or p q)) + (bit_xor p q - 1)) 0 → o' ≡ o → Meets bs k c o o' r
-  corner_known o o' r low e eo =
-      subst₂ (λ c o'. Meets bs k c o o' r) (sym ch.is) (sym eo) (meets_known bs k p q here o r low e)
-
-  pub corner_found : (o : Out) (r : ℕ) → 7 ≤ bit_or p q → get_or o.top (bit_xor p q) None ≡ Some r → Meets bs k c o o r
-  corner_found o r high e = subst (λ c. Meets bs k c o o r) (sym ch.is) (meets_found bs k p q here o r high e)
-
-  pub corner_new :
-      (o o' : Out) (r : ℕ) → 7 ≤ bit_or p q → get_or o.top (bit_xor p q) None ≡ None → r ≡ o.met → o' ≡ with_corner_met bs o (corner_at k p q) →
-      Meets bs k c o o' r
-  corner_new o o' r high e er eo =
-      subst₂ (λ o' r. Meets bs k c o o' r) (sym eo) (sym er)
-      (subst (λ c. Meets bs k c o (with_corner_met bs o (corner_at k p q)) o.met) (sym ch.is) (meets_new bs k p q here o high e))
-
-  pub ready : 7 ≤ bit_or p q → (upper (corner_at k p q) ≡ lowest_of k ⊕ highest) × (step_of (corner_at k p q) ≡ bit_xor p q)
-  ready high = (ends_top bs k p q here high, step_is bs k p q here)
+-- one new corner less is left to meet
+pub met_left :
+    (bs : List ℕ) (k : Cube) (ss : List ℕ) (o o' : Out) (i : ℕ) → i < length ss →
+    o' ≡ with_corner_met bs (noted o (56 + get_or ss i 0)) (new_corner k (get_or ss i 0)) →
+    met_by bs k (drop (i + 1) ss) o' ≡ met_by bs k (drop i ss) o
+met_left bs k ss o o' i l eo =
+    ap (met_by bs k (drop (i + 1) ss)) eo ∙ sym (ap (λ ss. met_by bs k ss o) (drop_more ss i 0 l))

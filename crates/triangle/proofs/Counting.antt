@@ -1,49 +1,38 @@
 -- A cube adds one corner for each edge that ends at its highest point and crosses, and the triangles of its pieces. Assumes nothing.
-use Rattle.std.proofs.Common.{◌≡◌, ℕ, suc, ◌+◌, ◌-◌, ◌*◌, ◌<◌, ◌≤◌, min, Bool, true, false, cond, not, eqb, ltb, leb, ◌≢◌, ◌⊎◌, List, [], ◌∷◌, ◌++◌, length, sym, refl, ap, ◌∙◌, subst, ap₂, subst₂, inl, inr, ⊎_elim, arith, length-append}
+use Rattle.std.proofs.Common.{◌≡◌, ℕ, suc, ◌+◌, ◌-◌, ◌^◌, ◌<◌, ◌≤◌, min, Bool, true, false, not, eqb, leb, ◌≢◌, List, [], ◌∷◌, ◌++◌, map, length, sym, refl, ap, ◌∙◌, subst, ap₂, subst₂, inl, inr, ⊎_elim, arith, length-append}
 use mathlib.Core.Bool.{beq}
-use lib.Count.{ones}
-use Rattle.std.proofs.lemmas.Bool.{or_cases, both_ways, cases_Bool, cases_lt, eqb-true, eq-eqb, ne_eqb, leb-true}
+use Rattle.std.proofs.lemmas.List.{length-map}
+use Rattle.std.proofs.lemmas.Bool.{both_ways, cases_Bool, cases_lt, eq-eqb, ne_eqb, leb-true}
 use Rattle.std.specs.List.{flat_map, AllByRecursion}
 use Rattle.theory.specs.Grid.{Point, pt, same_point, Offset, off, lowest, +x, +y, +z, +xy, +xz, +yz, highest, raised, ◌⊕◌}
-use Rattle.theory.specs.Triangle.{edge, one_if, sum_of, has, times, with_corner}
-use Rattle.theory.specs.Skin.{Corner, same, cube}
+use Rattle.theory.specs.Triangle.{edge, one_if, sum_of, corners, has, times, with_corner}
+use Rattle.theory.specs.Skin.{Corner, Triangle, same, cube}
 use Rattle.theory.proofs.Sums.{sum_append, sum_joined, every_append}
 use Rattle.theory.specs.Closed.{Neighbours}
 use Rattle.theory.proofs.Same.{same_point_true, same_point_refl, same_true, same_refl}
-use Rattle.theory_numbers.specs.Numbers.{corners_met}
+use Rattle.theory_numbers.specs.Numbers.{mapped, corners_met}
 use Rattle.theory_numbers.specs.Order.{upper, FirstMet}
 use Rattle.theory_numbers.proofs.Firsts.{length_le, same_from}
 use Rattle.theory_numbers.proofs.Numbered.{met_once, met_had}
 use Rattle.theory_numbers.proofs.Order.{in_order, first_met}
 use Rattle.theory_numbers.proofs.Crossed.{top_has}
+use Rattle.theory_numbers.proofs.Six.{at_most_six}
 use Rattle.block.specs.Scan.{size_x, size_y, size_z, inside}
 use Rattle.piece.specs.Table.{bit, offset_number, offset_at}
-use Rattle.triangle.specs.Cubes.{lowest_of, plain, OfBlock}
+use Rattle.triangle.specs.Cubes.{lowest_of, OfBlock}
 use Rattle.triangle.specs.Slots.{step_of}
 use Rattle.triangle.specs.Output.{Crossing}
 use Rattle.triangle.specs.Progress.{earlier}
-use Rattle.triangle.specs.Counting.{new_corners, Counted}
+use Rattle.triangle.specs.Cases.{cube_table, edge_code, code_triangles, new_steps, new_corners, new_triangles}
+use Rattle.triangle.specs.Counting.{Counted}
 use Rattle.triangle.specs.declared.Counts.{Counts}
 use Rattle.triangle.specs.declared.cube.Cube.{Cube}
 use Rattle.triangle.proofs.Slots.{across, either_of, step_at, upper_at, directed, rise_of, upper_rise}
 use Rattle.triangle.proofs.Tables.{at_below}
 use Rattle.triangle.proofs.Corners.{cube_crosses}
-use Rattle.triangle.proofs.Pieces.{plain_empty}
-
--- by who of eight points is inside, as the code counts
-pub counted_bits : (b : ℕ) → b < 256 → cond (ltb b 128) (ones b) (8 - ones b) ≡ new_corners b
-unfolding ones
-counted_bits b l = eqb-true _ _ (at_below 256 (λ b. eqb (cond (ltb b 128) (ones b) (8 - ones b)) (new_corners b)) refl b l)
-
-pub few_new : (b : ℕ) → new_corners b ≤ 7
-few_new b = omega (arith, le 0, le 1, le 2, le 3, le 4, le 5, le 6)
-  where
-    le : (o : ℕ) → one_if (not (beq (bit b o) (bit b 7))) ≤ 1
-    le o = at_most (not (beq (bit b o) (bit b 7)))
-      where
-        at_most : (b : Bool) → one_if b ≤ 1
-        at_most true = omega arith
-        at_most false = omega arith
+use Rattle.triangle.proofs.Computed.{case_facts}
+use Rattle.triangle.proofs.Pieces.{cube_by_table}
+use Rattle.triangle.proofs.Fronts.{cube_front, met_le, cubes_few, skin_few}
 
 -- the corner between two points, by who of them is inside
 abbrev between : Bool → Bool → Point → Point → List Corner
@@ -184,8 +173,8 @@ module _ (bs : List ℕ) (k : Cube) (h : OfBlock bs k) where
 
   below_top : (p : Point) (u : Offset) → p ⊕ u ≡ top → p ≡ l ⊕ opposite u
   below_top (pt x y z) (off a b c) e =
-      let p : raised a x ≡ suc k.x = cc in let q : raised b y ≡ suc k.y = cc in let r : raised c z ≡ suc k.z = cc in
-      λ t. pt (down a x k.x p t) (down b y k.y q t) (down c z k.z r t)
+      let p : raised a x ≡ suc k.lowest.x = cc in let q : raised b y ≡ suc k.lowest.y = cc in let r : raised c z ≡ suc k.lowest.z = cc in
+      λ t. pt (down a x k.lowest.x p t) (down b y k.lowest.y q t) (down c z k.lowest.z r t)
     where
       down : (a : Bool) (u i : ℕ) → raised a u ≡ suc i → u ≡ raised (not a) i
       down false u i e = e
@@ -212,9 +201,9 @@ module _ (bs : List ℕ) (k : Cube) (h : OfBlock bs k) where
     both_met : with_corner same c (earlier bs l ++ cube f l) ≡ with_corner same c (earlier bs l) + with_corner same c (cube f l)
     both_met = sum_append (has same c) (earlier bs l) (cube f l)
 
-    first : 0 < with_corner same c (cube f l) → FirstMet f (size_x bs - 1) (size_y bs - 1) k.x k.y k.z c
+    first : 0 < with_corner same c (cube f l) → FirstMet f (size_x bs - 1) (size_y bs - 1) k.lowest.x k.lowest.y k.lowest.z c
     first m =
-        first_met f (size_x bs - 1) (size_y bs - 1) (size_z bs - 1) k.x k.y k.z h.taken.border
+        first_met f (size_x bs - 1) (size_y bs - 1) (size_z bs - 1) k.lowest.x k.lowest.y k.lowest.z h.taken.border
         (omega (arith, h.along_x)) (omega (arith, h.along_y)) (omega (arith, h.along_z)) c m
 
     -- met in the end: met before, or one of the new ones
@@ -268,56 +257,40 @@ module _ (bs : List ℕ) (k : Cube) (h : OfBlock bs k) where
       let b = length_le same same_true same_refl (corners_met (earlier bs l) ++ tops) (corners_met (earlier bs l ++ cube f l)) no_less in
       omega (arith, length-append (corners_met (earlier bs l)) tops, length_tops)
 
-pub cube_counted :
-    (bs : List ℕ) (k : Cube) (r : Counts) → OfBlock bs k → r.corners ≡ new_corners k.bits →
-    r.triangles ≡ length (cube (inside bs) (lowest_of k)) → r.triangles ≤ 12 → Counted bs (lowest_of k) (pt (suc k.x) k.y k.z) 1 r
-cube_counted bs k r h ec et few =
-    let next = (in_order (inside bs) (size_x bs - 1) (size_y bs - 1)).next_cube k.x k.y k.z in
-    record {
-      corners = ap (λ ts. length (corners_met ts)) next ∙ corners_more bs k h ∙ ap (λ n. length (corners_met (earlier bs (lowest_of k))) + n) (sym ec);
-      triangles = ap length next ∙ length-append (earlier bs (lowest_of k)) (cube (inside bs) (lowest_of k)) ∙ ap (λ n. length (earlier bs (lowest_of k)) + n) (sym et);
-      few_corners = omega (arith, few_new k.bits);
-      few_triangles = omega arith;
-    }
+triangles_more : (bs : List ℕ) (k : Cube) → OfBlock bs k → length (cube (inside bs) (lowest_of k)) ≡ new_triangles k.bits
+triangles_more bs k h = ap length (cube_by_table bs k h) ∙ length-map (cube_table k.bits) _ ∙ (case_facts k.bits h.byte).triangle_count
 
-pub plain_counted :
-    (bs : List ℕ) (k : Cube) → OfBlock bs k → plain k.bits ≡ true →
-    Counted bs (lowest_of k) (pt (suc k.x) k.y k.z) 1 (record { corners = 0; triangles = 0 })
-plain_counted bs k h e =
-    cube_counted bs k _ h (none_new (or_cases (eqb k.bits 0) (eqb k.bits 255) e)) (ap length (sym (plain_empty bs k h e))) (omega arith)
-  where
-    none_new : ((eqb k.bits 0 ≡ true) ⊎ (eqb k.bits 255 ≡ true)) → 0 ≡ new_corners k.bits
-    none_new (inl t) = sym (ap new_corners (eqb-true k.bits 0 t))
-    none_new (inr t) = sym (ap new_corners (eqb-true k.bits 255 t))
+-- what a cube adds, as the code has it, and that it fits
+module _ (bs : List ℕ) (k : Cube) (h : OfBlock bs k) (old r : Counts) (w : Counted bs old r (earlier bs (lowest_of k))) where
+  abbrev ts : List Triangle
+  ts = earlier bs (lowest_of k) ++ cube (inside bs) (lowest_of k)
 
-pub counted_then :
-    (bs : List ℕ) (p q s : Point) (m n : ℕ) (r t : Counts) → Counted bs p q m r → Counted bs q s n t →
-    Counted bs p s (m + n) (record { corners = r.corners + t.corners; triangles = r.triangles + t.triangles })
-counted_then bs p q s m n r t a b =
-    record {
-      corners = omega (arith, a.corners, b.corners);
-      triangles = omega (arith, a.triangles, b.triangles);
-      few_corners = omega (arith, a.few_corners, b.few_corners);
-      few_triangles = omega (arith, a.few_triangles, b.few_triangles);
-    }
+  more : (length (corners_met ts) ≡ r.corners + length (new_steps k.bits)) × (length ts ≡ r.triangles + length (map corners (code_triangles k.bits)))
+  more =
+      let coded = length-map (code_triangles k.bits) corners ∙ length-map (cube_table k.bits) (mapped edge_code) in
+      let facts = case_facts k.bits h.byte in (
+        omega (arith, corners_more bs k h, w.corners, facts.step_count),
+        omega (
+          arith,
+          length-append (earlier bs (lowest_of k)) (cube (inside bs) (lowest_of k)),
+          triangles_more bs k h,
+          w.triangles,
+          facts.triangle_count,
+          coded,
+        ),
+      )
 
--- the end of a row is the start of the next
-pub row_counted : (bs : List ℕ) (y z : ℕ) (r : Counts) → size_x bs - 1 ≤ 95 → Counted bs (pt 0 y z) (pt (size_x bs - 1) y z) (size_x bs - 1) r → Counted bs (pt 0 y z) (pt 0 (suc y) z) 95 r
-row_counted bs y z r few c =
-    let e = (in_order (inside bs) (size_x bs - 1) (size_y bs - 1)).next_row y z in
-    record {
-      corners = ap (λ ts. length (corners_met ts)) e ∙ c.corners;
-      triangles = ap length e ∙ c.triangles;
-      few_corners = omega (arith, c.few_corners);
-      few_triangles = omega (arith, c.few_triangles);
-    }
+  pub sums_fit : (r.corners + length (new_steps k.bits) < 2 ^ 32) × (r.triangles + length (map corners (code_triangles k.bits)) < 2 ^ 32)
+  sums_fit =
+      let front = cube_front bs k.lowest.x k.lowest.y k.lowest.z (omega (arith, h.along_x)) (omega (arith, h.along_y)) (omega (arith, h.along_z)) in
+      let six = at_most_six (inside bs) (size_x bs - 1) (size_y bs - 1) (size_z bs - 1) h.taken.border in (
+        omega (arith, more.0, met_le ts front.0, ap (λ us. length (corners_met us)) front.1, six, cubes_few bs h.taken),
+        omega (arith, more.1, ap length front.1, length-append ts front.0, skin_few bs h.taken),
+      )
 
-pub layer_counted : (bs : List ℕ) (z : ℕ) (r : Counts) → size_y bs - 1 ≤ 95 → Counted bs (pt 0 0 z) (pt 0 (size_y bs - 1) z) (95 * (size_y bs - 1)) r → Counted bs (pt 0 0 z) (pt 0 0 (suc z)) 9025 r
-layer_counted bs z r few c =
-    let e = (in_order (inside bs) (size_x bs - 1) (size_y bs - 1)).next_layer z in
-    record {
-      corners = ap (λ ts. length (corners_met ts)) e ∙ c.corners;
-      triangles = ap length e ∙ c.triangles;
-      few_corners = omega (arith, c.few_corners);
-      few_triangles = omega (arith, c.few_triangles);
-    }
+  pub counted_more :
+      (t : Counts) → t.corners ≡ r.corners + length (new_steps k.bits) → t.triangles ≡ r.triangles + length (map corners (code_triangles k.bits)) →
+      Counted bs old t (earlier bs (pt (suc k.lowest.x) k.lowest.y k.lowest.z))
+  counted_more t ec et =
+      subst (Counted bs old t) (sym ((in_order (inside bs) (size_x bs - 1) (size_y bs - 1)).next_cube k.lowest.x k.lowest.y k.lowest.z))
+      record { corners = ec ∙ sym more.0; triangles = et ∙ sym more.1 }

@@ -1,24 +1,23 @@
 -- What the buffers hold after a corner is met for the first time, and after a triangle is made. Assumes nothing.
-use Rattle.std.proofs.Common.{◌≡◌, ℕ, ◌+◌, ◌*◌, ◌^◌, ◌<◌, ◌≤◌, true, false, cond, ltb, leb, ◌≢◌, List, [], ◌∷◌, ◌++◌, map, length, get_or, take, drop, set, Some, None, Option, sym, refl, ap, ◌∙◌, subst, ap₂, inl, inr, arith, length-append, length-set}
+use Rattle.std.proofs.Common.{◌≡◌, ℕ, ◌+◌, ◌*◌, ◌^◌, ◌<◌, ◌≤◌, true, false, cond, ltb, leb, ◌≢◌, List, [], ◌∷◌, ◌++◌, map, length, get_or, take, drop, set, sym, refl, ap, ◌∙◌, subst, ap₂, inl, inr, append_assoc, append-nil, arith, length-append, length-set}
 use Rattle.std.proofs.lemmas.List.{get_or-set_same, get_or-set_other, map_push, length-map}
 use Rattle.std.proofs.lemmas.Bool.{both_ways, cases_Bool, cond-true, cond_both, le-leb, lt-ltb, ltb-true}
-use Rattle.theory.specs.Grid.{Point, pt, highest, ◌⊕◌}
-use Rattle.theory.specs.Triangle.{Tri, tri, one_if, times, with_corner}
-use Rattle.theory.specs.Skin.{Corner, same, cube}
+use Rattle.theory.specs.Grid.{pt}
+use Rattle.theory.specs.Triangle.{Tri, tri, one_if, times}
+use Rattle.theory.specs.Skin.{Corner, same}
 use Rattle.theory.specs.Places.{Place, place}
 use Rattle.theory.proofs.Sums.{sum_append}
 use Rattle.theory.proofs.Same.{same_true, same_refl}
 use Rattle.theory_numbers.specs.Numbers.{index_of}
-use Rattle.theory_numbers.specs.Order.{upper}
 use Rattle.theory_numbers.proofs.Meeting.{as_they_are_met, index_append, meet_new}
-use Rattle.block.specs.Scan.{size_x, size_y, size_z, inside, Taken}
+use Rattle.block.specs.Scan.{size_x, size_y, size_z, Taken}
 use Rattle.corner.specs.Fraction.{fraction_in}
 use Rattle.corner.specs.Buffer.{coordinates, filled}
 use Rattle.triangle.specs.Slots.{step_of, slot}
-use Rattle.triangle.specs.Output.{quad, with_triangle, with_corner_met, Crossing, Found, Knows, RoomForCorners}
+use Rattle.triangle.specs.Output.{quad, with_triangle, with_triangles, with_numbers, with_corner_met, Crossing, Holds, RoomForCorners}
 use Rattle.triangle.specs.declared.write.Out.{Out}
 use Rattle.triangle.proofs.Buffers.{begun_more, length_begun}
-use Rattle.triangle.proofs.Slots.{step_apart, slot_apart, slot_below}
+use Rattle.triangle.proofs.Slots.{slot_apart, slot_below}
 
 pub length_coordinates : (s : Place) → length (coordinates s) ≡ 3
 length_coordinates (pt x y z) = refl
@@ -30,53 +29,77 @@ same_from : (c d : Corner) → c ≡ d → same c d ≡ true
 same_from c d e = subst (λ d. same c d ≡ true) e (same_refl c)
 
 -- how often a corner stands in a list with one put behind it
-times_push : (met : List Corner) (c d : Corner) → times same d (met ++ c ∷ []) ≡ times same d met + one_if (same c d)
+pub times_push : (met : List Corner) (c d : Corner) → times same d (met ++ c ∷ []) ≡ times same d met + one_if (same c d)
 times_push met c d = let e = sum_append (λ e. one_if (same e d)) met (c ∷ []) in omega arith
 
-module _ (bs : List ℕ) (taken : Taken bs) (l : Point) (old o : Out) (met : List Corner) (ts : List (Tri ℕ)) (k : Knows bs l old o met ts) where
+-- numbers by code exchanged once more
+pub with_more : (old o o' : Out) (ns ns' : List ℕ) → o ≡ with_numbers old ns → o' ≡ with_numbers o ns' → o' ≡ with_numbers old o'.numbers
+with_more old o o' ns ns' e e' =
+    e' ∙ ap (λ o. with_numbers o ns') e ∙ sym (ap (λ o. with_numbers old o.numbers) e')
+
+-- the numbers by code are a cube's own
+pub holds_still :
+    (bs : List ℕ) (old o : Out) (ns : List ℕ) (met : List Corner) (ts : List (Tri ℕ)) → Holds bs old o met ts → Holds bs old (with_numbers o ns) met ts
+holds_still bs old o ns met ts h =
+    record {
+      corner_count = h.corner_count;
+      triangle_count = h.triangle_count;
+      corners = h.corners;
+      triangles = h.triangles;
+      own_corners = h.own_corners;
+      own_triangles = h.own_triangles;
+      own_work = h.own_work;
+      room = h.room;
+      crossing = h.crossing;
+      kept = h.kept;
+    }
+
+module _ (bs : List ℕ) (taken : Taken bs) (old : Out) where
   -- the triangle's numbers are written behind the others
-  pub made_more :
-      (t : Tri ℕ) → 4 * length (ts ++ t ∷ []) ≤ length old.triangles.now → length (ts ++ t ∷ []) < 2 ^ 32 →
-      Knows bs l old (with_triangle o t) met (ts ++ t ∷ [])
-  made_more t fits small =
-      let h = k.holds in
+  made_more :
+      (o : Out) (met : List Corner) (ts : List (Tri ℕ)) (t : Tri ℕ) → Holds bs old o met ts →
+      4 * length (ts ++ t ∷ []) ≤ length old.triangles.now → length (ts ++ t ∷ []) < 2 ^ 32 → Holds bs old (with_triangle o t) met (ts ++ t ∷ [])
+  made_more o met ts t h fits small =
       let more = length-append ts (t ∷ []) in
       let long : length o.triangles.now ≡ length old.triangles.now = ap length h.triangles ∙ length_begun quad 4 length_quad ts old.triangles.now (omega arith) in
       let room : leb (4 * o.made + 4) (length o.triangles.now) ≡ true = le-leb _ _ (omega (arith, h.triangle_count)) in
       record {
-        holds =
-            record {
-              corner_count = h.corner_count;
-              triangle_count = omega (arith, h.triangle_count);
-              corners = h.corners;
-              triangles =
-                  cond-true _ _ _ room
-                  ∙ ap₂ (λ n xs. take (4 * n) xs ++ (quad t ++ drop (4 * n + 4) xs)) h.triangle_count h.triangles
-                  ∙ begun_more quad 4 length_quad ts t old.triangles.now;
-              own_corners = h.own_corners;
-              own_triangles = h.own_triangles;
-              own_work = h.own_work;
-              room = h.room;
-              crossing = h.crossing;
-              kept = h.kept;
-            };
-        eight = k.eight;
-        known = k.known;
-        new = k.new;
+        corner_count = h.corner_count;
+        triangle_count = omega (arith, h.triangle_count);
+        corners = h.corners;
+        triangles =
+            cond-true _ _ _ room
+            ∙ ap₂ (λ n xs. take (4 * n) xs ++ (quad t ++ drop (4 * n + 4) xs)) h.triangle_count h.triangles
+            ∙ begun_more quad 4 length_quad ts t old.triangles.now;
+        own_corners = h.own_corners;
+        own_triangles = h.own_triangles;
+        own_work = h.own_work;
+        room = h.room;
+        crossing = h.crossing;
+        kept = h.kept;
       }
 
-  module _ (c : Corner) (crosses : Crossing bs c) (ends : upper c ≡ l ⊕ highest) (fresh : times same c met ≡ 0)
-      (eight : step_of c < 8) (has : 0 < with_corner same c (cube (inside bs) l)) where
+  -- one triangle after the other
+  pub made_all :
+      (us : List (Tri ℕ)) (o : Out) (met : List Corner) (ts : List (Tri ℕ)) → Holds bs old o met ts →
+      4 * length (ts ++ us) ≤ length old.triangles.now → length (ts ++ us) < 2 ^ 32 → Holds bs old (with_triangles o us) met (ts ++ us)
+  made_all [] o met ts h fits small = subst (Holds bs old o met) (sym (append-nil ts)) h
+  made_all (u ∷ us) o met ts h fits small =
+      let all = length-append ts (u ∷ us) in
+      let one = length-append ts (u ∷ []) in
+      let regroup = append_assoc ts (u ∷ []) us in
+      subst (Holds bs old (with_triangles (with_triangle o u) us) met) regroup
+      (made_all us (with_triangle o u) met (ts ++ u ∷ []) (made_more o met ts u h (omega arith) (omega arith))
+      (subst (λ vs. 4 * length vs ≤ length old.triangles.now) (sym regroup) fits)
+      (subst (λ vs. length vs < 2 ^ 32) (sym regroup) small))
+
+  module _ (o : Out) (met : List Corner) (ts : List (Tri ℕ)) (h : Holds bs old o met ts)
+      (c : Corner) (crosses : Crossing bs c) (fresh : times same c met ≡ 0) where
     met' : List Corner
     met' = met ++ c ∷ []
 
-    number : index_of same c met' ≡ length met
-    unfolding met'
+    pub number : index_of same c (met ++ c ∷ []) ≡ length met
     number = ap (index_of same c) (sym (meet_new same met c fresh)) ∙ as_they_are_met.new_number met c fresh
-
-    there : 0 < times same c met'
-    unfolding met'
-    there = omega (arith, times_push met c c, ap one_if (same_refl c))
 
     -- what holds of c, and of each corner that was met before
     each : (P : Corner → Type 0) → P c → ((d : Corner) → same c d ≡ false → 0 < times same d met → P d) → (d : Corner) → 0 < times same d met' → P d
@@ -99,7 +122,6 @@ module _ (bs : List ℕ) (taken : Taken bs) (l : Point) (old o : Out) (met : Lis
     kept_more : (d : Corner) → 0 < times same d met' → step_of d < 7 → get_or work' (slot bs d) 0 ≡ index_of same d met'
     unfolding met' work'
     kept_more =
-        let h = k.holds in
         each (λ d. step_of d < 7 → get_or work' (slot bs d) 0 ≡ index_of same d met')
         (λ s.
         ap (λ xs. get_or xs (slot bs c) 0) (cond-true _ _ _ (lt-ltb (step_of c) 7 s))
@@ -114,33 +136,9 @@ module _ (bs : List ℕ) (taken : Taken bs) (l : Point) (old o : Out) (met : Lis
         (λ _. refl)
         ∙ h.kept d m s ∙ sym (index_append same met (c ∷ []) d m))
 
-    found_more : (d : Corner) (r : Option ℕ) → same c d ≡ false → Found r d met → Found r d met'
-    unfolding met'
-    found_more d None e f = omega (arith, times_push met c d, ap one_if e)
-    found_more d (Some n) e f = (omega (arith, times_push met c d, f.0), f.1 ∙ sym (index_append same met (c ∷ []) d f.0))
-
-    new_more :
-        (d : Corner) → 0 < with_corner same d (cube (inside bs) l) → Crossing bs d → upper d ≡ l ⊕ highest →
-        Found (get_or (set o.top (step_of c) (Some o.met)) (step_of d) None) d met'
-    unfolding met'
-    new_more d m x u =
-        elim (cases_Bool (same c d)) [
-          | inl e ↦
-              subst (λ d. Found (get_or (set o.top (step_of c) (Some o.met)) (step_of d) None) d met') (same_true c d e)
-              (subst (λ r. Found r c met') (sym (get_or-set_same o.top (step_of c) (Some o.met) None (omega (arith, k.eight))))
-              (there, k.holds.corner_count ∙ sym number))
-          | inr e ↦
-              let ne : step_of d ≢ step_of c = λ q. both_ways (same c d) e (same_from c d (step_apart bs c d crosses x (ends ∙ sym u) (sym q))) in
-              subst (λ r. Found r d met') (sym (get_or-set_other o.top (step_of c) (step_of d) (Some o.met) None ne))
-              (found_more d (get_or o.top (step_of d) None) e (k.new d m u))
-        ]
-
-    pub met_more :
-        ((d : Corner) → 0 < with_corner same d (cube (inside bs) l) → Crossing bs d) → RoomForCorners old (met ++ c ∷ []) →
-        Knows bs l old (with_corner_met bs o c) (met ++ c ∷ []) ts
+    pub met_more : RoomForCorners old (met ++ c ∷ []) → Holds bs old (with_corner_met bs o c) (met ++ c ∷ []) ts
     unfolding met' work'
-    met_more crossing room =
-        let h = k.holds in
+    met_more room =
         let more = length-append met (c ∷ []) in
         let places = map (place (fraction_in bs)) met in
         let many : length places ≡ length met = length-map met (place (fraction_in bs)) in
@@ -148,24 +146,18 @@ module _ (bs : List ℕ) (taken : Taken bs) (l : Point) (old o : Out) (met : Lis
         ap length h.corners ∙ length_begun coordinates 3 length_coordinates places old.corners.now (omega arith) in
         let fits : leb (3 * o.met + 3) (length o.corners.now) ≡ true = le-leb _ _ (omega (arith, h.corner_count, room.0)) in
         record {
-          holds =
-              record {
-                corner_count = omega (arith, h.corner_count, room.1);
-                triangle_count = h.triangle_count;
-                corners =
-                    cond-true _ _ _ fits
-                    ∙ ap₂ (λ n xs. take (3 * n) xs ++ (coordinates (place (fraction_in bs) c) ++ drop (3 * n + 3) xs)) (h.corner_count ∙ sym many) h.corners
-                    ∙ begun_more coordinates 3 length_coordinates places (place (fraction_in bs) c) old.corners.now
-                    ∙ ap (λ ps. filled ps old.corners.now) (sym (map_push (place (fraction_in bs)) met c));
-                triangles = h.triangles;
-                own_corners = h.own_corners;
-                own_triangles = h.own_triangles;
-                own_work = h.own_work;
-                room = subst (λ n. 6 * (size_x bs * (size_y bs * size_z bs)) ≤ n) (sym length_work) h.room;
-                crossing = each (Crossing bs) crosses (λ d _ m. h.crossing d m);
-                kept = kept_more;
-              };
-          eight = length-set _ _ _ ∙ k.eight;
-          known = λ d m n. omega (arith, times_push met c d, k.known d m n);
-          new = λ d m u. new_more d m (crossing d m) u;
+          corner_count = omega (arith, h.corner_count, room.1);
+          triangle_count = h.triangle_count;
+          corners =
+              cond-true _ _ _ fits
+              ∙ ap₂ (λ n xs. take (3 * n) xs ++ (coordinates (place (fraction_in bs) c) ++ drop (3 * n + 3) xs)) (h.corner_count ∙ sym many) h.corners
+              ∙ begun_more coordinates 3 length_coordinates places (place (fraction_in bs) c) old.corners.now
+              ∙ ap (λ ps. filled ps old.corners.now) (sym (map_push (place (fraction_in bs)) met c));
+          triangles = h.triangles;
+          own_corners = h.own_corners;
+          own_triangles = h.own_triangles;
+          own_work = h.own_work;
+          room = subst (λ n. 6 * (size_x bs * (size_y bs * size_z bs)) ≤ n) (sym length_work) h.room;
+          crossing = each (Crossing bs) crosses (λ d _ m. h.crossing d m);
+          kept = kept_more;
         }

@@ -1,38 +1,20 @@
 -- The triangles that the table gives for the pieces of a cube, one after the other, are those of the cube; a plain cube has none; and the
 -- bits of two faces are those of the cube between them. Assumes nothing.
-use Rattle.std.proofs.Common.{◌≡◌, ℕ, zero, suc, ◌+◌, ◌/◌, ◌%◌, ◌<◌, ◌≤◌, Bool, true, false, eqb, List, [], ◌∷◌, ◌++◌, map, length, get_or, take, Some, refl, ap, ◌∙◌, ap₂, inl, inr, append_assoc, append-nil, add-one, arith}
-use Rattle.std.proofs.lemmas.List.{take_more, get_or-map, length-map}
+use Rattle.std.proofs.Common.{◌≡◌, ℕ, zero, suc, ◌+◌, ◌/◌, ◌<◌, ◌≤◌, Bool, true, false, eqb, List, [], ◌∷◌, ◌++◌, map, Some, sym, refl, ap, ◌∙◌, ap₂, inl, inr, append_assoc, append-nil, add-one, arith}
+use Rattle.std.proofs.lemmas.List.{map-append}
 use Rattle.std.proofs.lemmas.Bool.{eqb-true, or_cases}
 use Rattle.std.specs.List.{slice_get}
 use Rattle.theory.specs.Grid.{Point, pt, Piece, pieces, ◌⊕◌}
-use Rattle.theory.specs.Triangle.{Edge, edge, Tri, tri, one_if, corners}
+use Rattle.theory.specs.Triangle.{Edge, edge, Tri, tri, one_if}
 use Rattle.theory.specs.Skin.{Triangle, in_piece, cube, below}
 use Rattle.theory.specs.Faces.{renamed}
 use Rattle.block.specs.Scan.{size_x, size_y, size_z, inside, Taken}
-use Rattle.piece.specs.Table.{bit, point_of, corner_point, offset_at, triangles_in, unused, no_triangle}
+use Rattle.piece.specs.Table.{bit, point_of, corner_point, offset_at, triangles_in}
 use Rattle.piece.proofs.Table.{cut_by_table}
-use Rattle.triangle.specs.Cubes.{lowest_of, case_in, plain, face_bits, on_points, triangle_at, piece_triangles, OfBlock}
+use Rattle.triangle.specs.Cubes.{lowest_of, cube_at, point_in, case_in, plain, face_bits, piece_triangles, OfBlock}
+use Rattle.triangle.specs.Cases.{cube_table}
 use Rattle.triangle.specs.declared.cube.Cube.{Cube}
-use Rattle.triangle.proofs.Tables.{at_most_two, case_below, case_bit, point_below, bit_is}
-
-renamed_corners :
-    {P Q : Type 0} (g : P → Q) (d : Edge P) (t : Tri (Edge P)) →
-    renamed g t ≡ tri (on_points g (get_or (corners t) 0 d)) (on_points g (get_or (corners t) 1 d)) (on_points g (get_or (corners t) 2 d))
-renamed_corners g d (tri (edge a b) (edge c e) (edge h i)) = refl
-
--- one triangle more of a piece
-pub piece_more :
-    (k : Cube) (w n : ℕ) → n < length (triangles_in (case_in k.bits w)) →
-    take (n + 1) (piece_triangles k w) ≡ take n (piece_triangles k w) ++ triangle_at k w n ∷ []
-piece_more k w n l =
-    let ts = triangles_in (case_in k.bits w) in
-    let g = corner_point (lowest_of k) w in
-    let two : n < 2 = omega (arith, at_most_two (case_in k.bits w) (case_below k.bits w)) in
-    let round : n ≡ n % 2 = omega arith in
-    let t : get_or (map (renamed g) ts) n (renamed g no_triangle) ≡ triangle_at k w n =
-    get_or-map (renamed g) ts n no_triangle (renamed g no_triangle) l ∙ ap (λ m. renamed g (get_or ts m no_triangle)) round ∙ renamed_corners g unused (get_or ts (n % 2) no_triangle) in
-    let long : n < length (map (renamed g) ts) = omega (arith, length-map ts (renamed g)) in
-    take_more (map (renamed g) ts) n (renamed g no_triangle) long ∙ ap (λ t. take n (map (renamed g) ts) ++ t ∷ []) t
+use Rattle.triangle.proofs.Tables.{case_bit, point_below, bit_is}
 
 -- the table cuts the pieces of a cube
 module _ (bs : List ℕ) (k : Cube) (h : OfBlock bs k) where
@@ -53,6 +35,26 @@ module _ (bs : List ℕ) (k : Cube) (h : OfBlock bs k) where
     where
       regroup : (a b c d e g : List Triangle) → a ++ (b ++ (c ++ (d ++ (e ++ (g ++ []))))) ≡ ((((a ++ b) ++ c) ++ d) ++ e) ++ g
       regroup a b c d e g = simp (append_assoc, append-nil)
+
+  -- the triangles of a cube, by the numbers of their points
+  pub cube_by_table : cube (inside bs) (lowest_of k) ≡ map (renamed (point_in k)) (cube_table k.bits)
+  cube_by_table = cube_is ∙ moved 6
+    where
+      twice :
+          (w : ℕ) (ts : List (Tri (Edge ℕ))) →
+          map (renamed (corner_point (lowest_of k) w)) ts ≡ map (renamed (point_in k)) (map (renamed (point_of w)) ts)
+      twice w [] = refl
+      twice w (tri (edge a b) (edge c d) (edge e g) ∷ ts) =
+          ap (λ us. renamed (corner_point (lowest_of k) w) (tri (edge a b) (edge c d) (edge e g)) ∷ us) (twice w ts)
+
+      moved :
+          (n : ℕ) →
+          below n (piece_triangles k) ≡ map (renamed (point_in k)) (below n (λ w. map (renamed (point_of w)) (triangles_in (case_in k.bits w))))
+      moved zero = refl
+      moved (suc n) =
+          ap₂ ◌++◌ (moved n) (twice n (triangles_in (case_in k.bits n)))
+          ∙ sym (map-append (renamed (point_in k)) (below n (λ w. map (renamed (point_of w)) (triangles_in (case_in k.bits w))))
+          (map (renamed (point_of n)) (triangles_in (case_in k.bits n))))
 
   -- all eight points are outside, or all are inside
   pub plain_empty : plain k.bits ≡ true → cube (inside bs) (lowest_of k) ≡ []
@@ -88,7 +90,7 @@ face_le f x y z = omega (arith, one_if_le (f (pt x y z)), one_if_le (f (pt x (su
 pub cube_of_faces :
     (bs : List ℕ) (x y z near far : ℕ) → Taken bs → suc x < size_x bs → suc y < size_y bs → suc z < size_z bs →
     near ≡ face_bits (inside bs) (pt x y z) → far ≡ face_bits (inside bs) (pt (x + 1) y z) →
-    OfBlock bs (record { x = x; y = y; z = z; bits = near / 2 + far })
+    OfBlock bs (cube_at x y z (near / 2 + far))
 cube_of_faces bs x y z near far taken lx ly lz en ef =
     let next = ef ∙ ap (λ n. face_bits (inside bs) (pt n y z)) (add-one x) in
     record {
@@ -96,5 +98,6 @@ cube_of_faces bs x y z near far taken lx ly lz en ef =
       along_x = lx;
       along_y = ly;
       along_z = lz;
+      byte = omega (arith, face_le (inside bs) x y z, face_le (inside bs) (x + 1) y z);
       bits = λ o l. ap₂ (λ near far. bit (near / 2 + far) o) en next ∙ between_faces (inside bs) x y z o l;
     }

@@ -50,29 +50,19 @@ step_at (pt x y z) (off a b c) (off d e g) =
 pub upper_at : (l : Point) (a b : Offset) → upper (edge (l ⊕ a) (l ⊕ b)) ≡ l ⊕ either_of a b
 upper_at (pt x y z) (off a b c) (off d e g) = λ i. pt (max_raised a d x i) (max_raised b e y i) (max_raised c g z i)
 
+from_lowest : (a : Bool) → one_if (not (beq false a)) ≡ one_if a
+from_lowest false = refl
+from_lowest true = refl
+
+to_lowest : (a : Bool) → one_if (not (beq a false)) ≡ one_if a
+to_lowest false = refl
+to_lowest true = refl
+
 step_directed : (b : Bool) (r : Point) (o : Offset) → step_of (directed b r o) ≡ offset_number o
-step_directed true (pt x y z) (off a b c) = step_at (pt x y z) lowest (off a b c) ∙ from a b c
-  where
-    from : (a b c : Bool) → across lowest (off a b c) ≡ offset_number (off a b c)
-    from false false false = refl
-    from false false true = refl
-    from false true false = refl
-    from false true true = refl
-    from true false false = refl
-    from true false true = refl
-    from true true false = refl
-    from true true true = refl
-step_directed false (pt x y z) (off a b c) = step_at (pt x y z) (off a b c) lowest ∙ from a b c
-  where
-    from : (a b c : Bool) → across (off a b c) lowest ≡ offset_number (off a b c)
-    from false false false = refl
-    from false false true = refl
-    from false true false = refl
-    from false true true = refl
-    from true false false = refl
-    from true false true = refl
-    from true true false = refl
-    from true true true = refl
+step_directed true (pt x y z) (off a b c) =
+    step_at (pt x y z) lowest (off a b c) ∙ λ i. from_lowest a i + (2 * from_lowest b i + 4 * from_lowest c i)
+step_directed false (pt x y z) (off a b c) =
+    step_at (pt x y z) (off a b c) lowest ∙ λ i. to_lowest a i + (2 * to_lowest b i + 4 * to_lowest c i)
 
 halved : (a d : Bool) (m n : ℕ) → one_if a + 2 * m ≡ one_if d + 2 * n → (a ≡ d) × (m ≡ n)
 halved true true m n e = (refl, omega arith)

@@ -1,15 +1,14 @@
--- What is computed once for all cubes: the upper end and the step of an edge by the numbers of its ends, and that each corner of the table
--- goes from a point inside to one outside. Assumes nothing.
-use Rattle.std.proofs.Common.{◌≡◌, ℕ, zero, suc, ◌/◌, ◌%◌, ◌<◌, ◌≤◌, Bool, true, false, cond, not, ◌&&◌, ◌||◌, eqb, ltb, leb, ◌≢◌, ◌⊎◌, length, sym, refl, ap, ◌∙◌, subst, subst₂, inl, inr, ⊎_elim, arith}
+-- What is computed once for all cubes: the upper end and the step of an edge by the numbers of its ends, and the cases of the pieces.
+-- Assumes nothing.
+use Rattle.std.proofs.Common.{◌≡◌, ℕ, zero, suc, ◌/◌, ◌%◌, ◌<◌, ◌≤◌, Bool, true, false, not, ◌&&◌, ◌||◌, eqb, ltb, leb, ◌≢◌, ◌⊎◌, length, sym, refl, ap, ◌∙◌, inl, inr, ⊎_elim, arith}
 use mathlib.Core.Bool
-use lib.Bits.{bit_or, bit_xor}
-use Rattle.std.proofs.lemmas.Bool.{and_parts, cases_lt, eqb-true, ltb-true, leb-true, not-true, or_cases, cond-true, lt-ltb}
+use lib.Bits.{bit_and, bit_or, bit_xor}
+use Rattle.std.proofs.lemmas.Bool.{and_parts, cases_lt, eqb-true, ltb-true, leb-true, or_cases}
 use Rattle.theory.specs.Grid.{Offset, off}
-use Rattle.theory.specs.Triangle.{Edge, edge, one_if}
+use Rattle.theory.specs.Triangle.{one_if}
 use Rattle.theory.specs.Faces.{same_offset}
-use Rattle.piece.specs.Table.{bit, point_of, offset_at, corner_point, triangles_in, corner_of}
-use Rattle.triangle.specs.Cubes.{lowest_of, case_in, on_points, EndsOf}
-use Rattle.triangle.specs.declared.cube.Cube.{Cube}
+use Rattle.piece.specs.Table.{bit, point_of, offset_at, triangles_in}
+use Rattle.triangle.specs.Cubes.{case_in}
 use Rattle.triangle.proofs.Slots.{across, either_of}
 
 -- a test that passes at each number below n
@@ -40,14 +39,15 @@ abbrev pair_test : ℕ → ℕ → Bool
 pair_test i j =
     same_offset (offset_at (bit_or i j)) (either_of (offset_at i) (offset_at j))
     && (eqb (across (offset_at i) (offset_at j)) (bit_xor i j)
-    && (ltb (bit_xor i j) 8 && ((eqb i j || ltb 0 (bit_xor i j))
-    && (eqb (bit_or i j) 7 || (ltb (bit_or i j) 7 && ltb (bit_xor i j) 7)))))
+    && (ltb (bit_xor i j) 8 && (eqb (bit_and (bit_or i j) (bit_xor i j)) (bit_xor i j) && ((eqb i j || (ltb 0 (bit_xor i j) && ltb 0 (bit_or i j)))
+    && (eqb (bit_or i j) 7 || (ltb (bit_or i j) 7 && ltb (bit_xor i j) 7))))))
 
 pub record PairFacts (i j : ℕ) : Type 0 where
   pub upper : offset_at (bit_or i j) ≡ either_of (offset_at i) (offset_at j)
   pub step : across (offset_at i) (offset_at j) ≡ bit_xor i j
   pub step_below : bit_xor i j < 8
-  pub differ : (i ≡ j) ⊎ (0 < bit_xor i j)
+  pub step_within : bit_and (bit_or i j) (bit_xor i j) ≡ bit_xor i j
+  pub differ : (i ≡ j) ⊎ ((0 < bit_xor i j) × (0 < bit_or i j))
   pub top : (bit_or i j ≡ 7) ⊎ ((bit_or i j < 7) × (bit_xor i j < 7))
 
 pub pair_facts : (i j : ℕ) → i < 8 → j < 8 → PairFacts i j
@@ -56,12 +56,18 @@ pair_facts i j li lj =
     let a = and_parts (same_offset (offset_at (bit_or i j)) (either_of (offset_at i) (offset_at j))) _ e in
     let b = and_parts (eqb (across (offset_at i) (offset_at j)) (bit_xor i j)) _ a.1 in
     let c = and_parts (ltb (bit_xor i j) 8) _ b.1 in
-    let d = and_parts (eqb i j || ltb 0 (bit_xor i j)) _ c.1 in
+    let w = and_parts (eqb (bit_and (bit_or i j) (bit_xor i j)) (bit_xor i j)) _ c.1 in
+    let d = and_parts (eqb i j || (ltb 0 (bit_xor i j) && ltb 0 (bit_or i j))) _ w.1 in
     record {
       upper = same_offset_true _ _ a.0;
       step = eqb-true _ _ b.0;
       step_below = ltb-true _ _ c.0;
-      differ = elim (or_cases (eqb i j) (ltb 0 (bit_xor i j)) d.0) [ inl t ↦ inl (eqb-true i j t) | inr t ↦ inr (ltb-true 0 _ t) ];
+      step_within = eqb-true _ _ w.0;
+      differ =
+          elim (or_cases (eqb i j) _ d.0) [
+            | inl t ↦ inl (eqb-true i j t)
+            | inr t ↦ let p = and_parts (ltb 0 (bit_xor i j)) (ltb 0 (bit_or i j)) t in inr (ltb-true 0 _ p.0, ltb-true 0 _ p.1)
+          ];
       top =
           elim (or_cases (eqb (bit_or i j) 7) _ d.1) [
             | inl t ↦ inl (eqb-true _ 7 t)
@@ -76,35 +82,8 @@ not_highest m l e = let z : ◌≡◌ {A = Bool} true false = sym (at_below 7 (�
     true_false : ◌≡◌ {A = Bool} true false → ⊥
     true_false z = let q : ◌≡◌ {A = ℕ} 1 0 = ap one_if z in omega arith
 
--- a corner of the table, by names: from a point inside to one outside
-abbrev crosses : ℕ → Edge ℕ → Bool
-crosses n (edge a b) = bit n a && (not (bit n b) && (ltb a 4 && ltb b 4))
-
-pub record Names (n a b : ℕ) : Type 0 where
-  pub starts : bit n a ≡ true
-  pub ends : bit n b ≡ false
-  pub from : a < 4
-  pub to : b < 4
-
-abbrev NamesOf : ℕ → Edge ℕ → Type 0
-NamesOf n (edge a b) = Names n a b
-
-names_of : (n : ℕ) (e : Edge ℕ) → crosses n e ≡ true → NamesOf n e
-names_of n (edge a b) t =
-    let p = and_parts (bit n a) _ t in
-    let q = and_parts (not (bit n b)) _ p.1 in
-    let r = and_parts (ltb a 4) (ltb b 4) q.1 in
-    record { starts = p.0; ends = not-true _ q.0; from = ltb-true a 4 r.0; to = ltb-true b 4 r.1 }
-
 pub at_most_two : (n : ℕ) → n < 16 → length (triangles_in n) ≤ 2
 at_most_two n l = leb-true _ 2 (at_below 16 (λ n. leb (length (triangles_in n)) 2) refl n l)
-
-pub table_crosses : (n k i : ℕ) → n < 16 → k < length (triangles_in n) → i < 3 → NamesOf n (corner_of n k i)
-table_crosses n k i ln lk li =
-    let t : ℕ → ℕ → ℕ → Bool = λ n k i. cond (ltb k (length (triangles_in n))) (crosses n (corner_of n k i)) true in
-    let two : k < 2 = omega (arith, at_most_two n ln) in
-    let e = at_below 3 (t n k) (at_below 2 (λ k. all_below 3 (t n k)) (at_below 16 (λ n. all_below 2 (λ k. all_below 3 (t n k))) refl n ln) k two) i li in
-    names_of n (corner_of n k i) (sym (cond-true _ _ _ (lt-ltb k _ lk)) ∙ e)
 
 -- a piece's points are points of the cube
 pub point_below : (w a : ℕ) → w < 6 → a < 4 → point_of w a < 8
@@ -138,20 +117,3 @@ case_bit bits w (suc zero) l = bit_is _ _ (sums bits w).1
 case_bit bits w (suc (suc zero)) l = bit_is _ _ (sums bits w).2
 case_bit bits w (suc (suc (suc zero))) l = bit_is _ _ (sums bits w).3
 case_bit bits w (suc (suc (suc (suc a)))) l = absurd (omega arith)
-
--- the ends of a corner of a triangle, by the numbers of their points
-pub ends_of :
-    (k : Cube) (w n i case a b p q : ℕ) → w < 6 → n < length (triangles_in (case_in k.bits w)) → i < 3 → case ≡ case_in k.bits w →
-    edge a b ≡ corner_of case n i → p ≡ point_of w a → q ≡ point_of w b → EndsOf k w n i p q
-ends_of k w n i case a b p q lw ln li ec ee ep eq =
-    let bits = k.bits in
-    let edges : edge a b ≡ corner_of (case_in bits w) n i = ee ∙ ap (λ m. corner_of m n i) ec in
-    let names : Names (case_in bits w) a b = subst (NamesOf (case_in bits w)) (sym edges) (table_crosses (case_in bits w) n i (case_below bits w) ln li) in
-    subst₂ (EndsOf k w n i) (sym ep) (sym eq)
-    record {
-      is = ap (on_points (corner_point (lowest_of k) w)) (sym edges);
-      from = point_below w a lw names.from;
-      to = point_below w b lw names.to;
-      starts = sym (case_bit bits w a names.from) ∙ names.starts;
-      ends = sym (case_bit bits w b names.to) ∙ names.ends;
-    }

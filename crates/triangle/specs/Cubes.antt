@@ -1,16 +1,21 @@
 -- A cube in the code: its points, who of them is inside, and the cases of its pieces. Assumes nothing: these are definitions.
-use Rattle.std.specs.Prelude.{◌≡◌, ℕ, suc, ◌+◌, ◌*◌, ◌<◌, Bool, true, false, ◌||◌, List, map, length, ◌==◌}
+use Rattle.std.specs.Prelude.{◌≡◌, ℕ, suc, ◌+◌, ◌*◌, ◌<◌, Bool, true, false, ◌||◌, List, map, ◌==◌}
 use Rattle.theory.specs.Grid.{Point, pt, ◌⊕◌}
-use Rattle.theory.specs.Triangle.{Edge, edge, tri, one_if}
+use Rattle.theory.specs.Triangle.{Edge, edge, one_if}
 use Rattle.theory.specs.Skin.{Corner, Triangle}
 use Rattle.theory.specs.Faces.{renamed}
 use Rattle.block.specs.Scan.{size_x, size_y, size_z, inside, Taken}
-use Rattle.piece.specs.Table.{bit, point_of, offset_at, corner_point, triangles_in, corner_of}
+use Rattle.grid.specs.Places.{at}
+use Rattle.piece.specs.Table.{bit, point_of, offset_at, corner_point, triangles_in}
 use Rattle.triangle.specs.declared.cube.Cube.{Cube}
 
 -- the lowest point of a cube
 abbrev pub lowest_of : Cube → Point
-lowest_of k = pt k.x k.y k.z
+lowest_of k = at k.lowest
+
+-- the cube at a place, with its bits
+abbrev pub cube_at : ℕ → ℕ → ℕ → ℕ → Cube
+cube_at x y z bits = record { lowest = record { x = x; y = y; z = z }; bits = bits }
 
 -- a point of a cube by its number
 abbrev pub point_in : Cube → ℕ → Point
@@ -35,9 +40,10 @@ face_bits f (pt x y z) =
 -- a cube of a block that was taken, with its bits
 pub record OfBlock (bs : List ℕ) (k : Cube) : Type 0 where
   pub taken : Taken bs
-  pub along_x : suc k.x < size_x bs
-  pub along_y : suc k.y < size_y bs
-  pub along_z : suc k.z < size_z bs
+  pub along_x : suc k.lowest.x < size_x bs
+  pub along_y : suc k.lowest.y < size_y bs
+  pub along_z : suc k.lowest.z < size_z bs
+  pub byte : k.bits < 256
   pub bits : (o : ℕ) → o < 8 → bit k.bits o ≡ inside bs (point_in k o)
 
 -- the corner between two points of a cube, given by their numbers
@@ -56,27 +62,6 @@ pub record Crosses (bs : List ℕ) (k : Cube) (i j : ℕ) : Type 0 where
 abbrev pub on_points : {P Q : Type 0} → (P → Q) → Edge P → Edge Q
 on_points g (edge a b) = edge (g a) (g b)
 
--- the i-th corner of the n-th triangle of a piece
-abbrev pub corner_in_piece : Cube → ℕ → ℕ → ℕ → Corner
-corner_in_piece k w n i = on_points (corner_point (lowest_of k) w) (corner_of (case_in k.bits w) n i)
-
-abbrev pub triangle_at : Cube → ℕ → ℕ → Triangle
-triangle_at k w n = tri (corner_in_piece k w n 0) (corner_in_piece k w n 1) (corner_in_piece k w n 2)
-
 -- the triangles of a piece, by the table
 abbrev pub piece_triangles : Cube → ℕ → List Triangle
 piece_triangles k w = map (renamed (corner_point (lowest_of k) w)) (triangles_in (case_in k.bits w))
-
--- a triangle of a piece of a cube
-pub record OfPiece (bs : List ℕ) (k : Cube) (w n : ℕ) : Type 0 where
-  pub cube : OfBlock bs k
-  pub piece : w < 6
-  pub triangle : n < length (triangles_in (case_in k.bits w))
-
--- points p and q are those between which the i-th corner of the n-th triangle of a piece lies, p inside and q not
-pub record EndsOf (k : Cube) (w n i p q : ℕ) : Type 0 where
-  pub is : corner_in_piece k w n i ≡ corner_at k p q
-  pub from : p < 8
-  pub to : q < 8
-  pub starts : bit k.bits p ≡ true
-  pub ends : bit k.bits q ≡ false

@@ -1,6 +1,11 @@
 pub mod Cubes
+pub mod Few
+pub mod Cases
+pub mod Adding
+pub mod Rows
 pub mod Slots
 pub mod Output
 pub mod Progress
+pub mod Passes
 pub mod Counting
 pub mod Built

@@ -1,20 +1,23 @@
 -- What the buffers hold while a skin is written: the corners met so far, the triangles made so far, and in `work` the numbers of the
 -- corners that a later cube may meet again. Assumes nothing: these are definitions.
-use Rattle.std.specs.Prelude.{◌≡◌, ℕ, ◌+◌, ◌*◌, ◌%◌, ◌^◌, ◌<◌, ◌≤◌, true, false, cond, ◌≢◌, List, [], ◌∷◌, ◌++◌, map, length, take, drop, replicate, Some, None, Option, nat_le, nat_lt, slice_index, slice_index_or, slice_set}
+use Rattle.std.specs.Prelude.{◌≡◌, ℕ, ◌+◌, ◌-◌, ◌*◌, ◌%◌, ◌^◌, ◌<◌, ◌≤◌, true, false, cond, not, List, [], ◌∷◌, ◌++◌, map, length, take, drop, bit_and, nat_le, nat_lt, slice_index, slice_set}
 use denote.Ref.{at_last}
 use Rattle.std.specs.List.{flat_map}
-use Rattle.theory.specs.Grid.{Point, highest, ◌⊕◌}
-use Rattle.theory.specs.Triangle.{edge, Tri, tri, times, with_corner}
-use Rattle.theory.specs.Skin.{Corner, same, cube}
+use Rattle.theory.specs.Grid.{highest, ◌⊕◌}
+use Rattle.theory.specs.Triangle.{edge, Tri, tri, times}
+use Rattle.theory.specs.Skin.{Corner, same}
 use Rattle.theory.specs.Closed.{Neighbours}
 use Rattle.theory.specs.Places.{Place, place}
-use Rattle.theory_numbers.specs.Numbers.{index_of, meet}
+use Rattle.theory_numbers.specs.Numbers.{mapped, index_of}
 use Rattle.theory_numbers.specs.Order.{upper}
 use Rattle.block.specs.Scan.{size_x, size_y, size_z, inside}
+use Rattle.grid.specs.Numbers.{number_of}
+use Rattle.piece.specs.Table.{bit}
 use Rattle.corner.specs.Fraction.{fraction_in}
 use Rattle.corner.specs.Buffer.{put_corner, filled}
 use Rattle.triangle.specs.Slots.{step_of, slot}
-use Rattle.triangle.specs.Cubes.{lowest_of}
+use Rattle.triangle.specs.Cubes.{lowest_of, point_in, on_points, OfBlock}
+use Rattle.triangle.specs.Cases.{new_edge}
 use Rattle.triangle.specs.declared.cube.Cube.{Cube}
 use Rattle.triangle.specs.declared.write.Out.{Out}
 
@@ -37,9 +40,9 @@ with_triangle o t =
       corners = o.corners;
       triangles = at_last o.triangles (put_triangle o.triangles.now o.made t);
       work = o.work;
+      numbers = o.numbers;
       met = o.met;
       made = (o.made + 1) % 2 ^ 32;
-      top = o.top;
     }
 
 -- one corner more, of which nothing is kept
@@ -49,31 +52,70 @@ with_place o s =
       corners = at_last o.corners (cond (nat_le (3 * o.met + 3) (length o.corners.now)) (put_corner o.corners.now o.met s) o.corners.now);
       triangles = o.triangles;
       work = o.work;
+      numbers = o.numbers;
       met = (o.met + 1) % 2 ^ 32;
       made = o.made;
-      top = o.top;
     }
 
--- a number kept in `top`, and in `work` unless the edge is a long diagonal
+-- a number kept in `work`, unless the edge is a long diagonal
 abbrev pub with_number : List ℕ → Corner → Out → ℕ → Out
 with_number bs c o n =
     record {
       corners = o.corners;
       triangles = o.triangles;
       work = at_last o.work (cond (nat_lt (step_of c) 7) (slice_set o.work.now (slot bs c) n) o.work.now);
+      numbers = o.numbers;
       met = o.met;
       made = o.made;
-      top = slice_set o.top (step_of c) (Some n);
     }
 
 -- a corner that is met for the first time
 abbrev pub with_corner_met : List ℕ → Out → Corner → Out
 with_corner_met bs o c = with_number bs c (with_place o (place (fraction_in bs) c)) o.met
 
--- the same with nothing in `top`
-abbrev pub with_empty_top : Out → Out
-with_empty_top o =
-    record { corners = o.corners; triangles = o.triangles; work = o.work; met = o.met; made = o.made; top = replicate 8 None }
+-- the corner on the edge that leads by a step to the highest point of a cube
+abbrev pub new_corner : Cube → ℕ → Corner
+new_corner k s = on_points (point_in k) (new_edge k.bits s)
+
+-- the numbers of a cube's corners by their codes exchanged
+abbrev pub with_numbers : Out → List ℕ → Out
+with_numbers o ns =
+    record { corners = o.corners; triangles = o.triangles; work = o.work; numbers = ns; met = o.met; made = o.made }
+
+-- the number of the next corner noted by a code
+abbrev pub noted : Out → ℕ → Out
+noted o c = with_numbers o (slice_set o.numbers c o.met)
+
+-- such corners are met one after the other, and their numbers noted by their codes
+abbrev pub met_by : List ℕ → Cube → List ℕ → Out → Out
+met_by bs k [] o = o
+met_by bs k (s ∷ ss) o = met_by bs k ss (with_corner_met bs (noted o (56 + s)) (new_corner k s))
+
+-- a step to the highest point of a cube on whose edge a corner is first met: its other end is outside where that point is inside, and inside
+-- where it is not
+pub record NewIn (bs : List ℕ) (k : Cube) (s : ℕ) : Type 0 where
+  pub cube : OfBlock bs k
+  pub above : 0 < s
+  pub below : s < 8
+  pub parted : bit k.bits (7 - s) ≡ not (bit k.bits 7)
+  pub upper : upper (new_corner k s) ≡ lowest_of k ⊕ highest
+  pub step : step_of (new_corner k s) ≡ s
+
+-- some triangles more
+abbrev pub with_triangles : Out → List (Tri ℕ) → Out
+with_triangles o [] = o
+with_triangles o (t ∷ ts) = with_triangles (with_triangle o t) ts
+
+-- a triangle by numbers, from one by codes
+abbrev pub numbered_by : List ℕ → Tri ℕ → Tri ℕ
+numbered_by ns = mapped (λ c. slice_index ns c)
+
+-- where `work` has room for a block, these are the numbers that it keeps for the edges of a cube that end below its highest point: a step
+-- leads to a point of a cube along no axis that the point itself is not up along
+abbrev pub KnownIn : List ℕ → Cube → List ℕ → List ℕ → Type 0
+KnownIn bs k work ns =
+    6 * (size_x bs * (size_y bs * size_z bs)) ≤ length work → (u s : ℕ) → 0 < u → u < 7 → 0 < s → s < 7 → bit_and u s ≡ s →
+    slice_index ns (8 * u + s) ≡ slice_index work (6 * number_of (size_x bs) (size_y bs) (point_in k u) + (s - 1))
 
 -- an edge of the grid from a point inside to a point outside
 abbrev pub Crossing : List ℕ → Corner → Type 0
@@ -93,26 +135,6 @@ pub record Holds (bs : List ℕ) (old o : Out) (met : List Corner) (ts : List (T
   pub crossing : (c : Corner) → 0 < times same c met → Crossing bs c
   pub kept : (c : Corner) → 0 < times same c met → step_of c < 7 → slice_index o.work.now (slot bs c) ≡ index_of same c met
 
--- what `top` says of a corner: its number, or that it was not met yet
-abbrev pub Found : Option ℕ → Corner → List Corner → Type 0
-Found None c met = times same c met ≡ 0
-Found (Some n) c met = (0 < times same c met) × (n ≡ index_of same c met)
-
--- the same within a cube, of whose corners `top` tells those that are first met there, and the others were met before
-pub record Knows (bs : List ℕ) (l : Point) (old o : Out) (met : List Corner) (ts : List (Tri ℕ)) : Type 0 where
-  pub holds : Holds bs old o met ts
-  pub eight : length o.top ≡ 8
-  pub known : (c : Corner) → 0 < with_corner same c (cube (inside bs) l) → upper c ≢ l ⊕ highest → 0 < times same c met
-  pub new :
-      (c : Corner) → 0 < with_corner same c (cube (inside bs) l) → upper c ≡ l ⊕ highest → Found (slice_index_or o.top (step_of c) None) c met
-
 -- a buffer that has room for so many corners, whose numbers are of 32 bits
 abbrev pub RoomForCorners : Out → List Corner → Type 0
 RoomForCorners old met = (3 * length met ≤ length old.corners.now) × (length met < 2 ^ 32)
-
--- a corner of a cube is met: it stands among the corners met, and r is its number
-abbrev pub Meets : List ℕ → Cube → Corner → Out → Out → ℕ → Type 0
-Meets bs q c o o' r =
-    (old : Out) (met : List Corner) (ts : List (Tri ℕ)) → Knows bs (lowest_of q) old o met ts →
-    0 < with_corner same c (cube (inside bs) (lowest_of q)) → RoomForCorners old (meet same met c) →
-    Knows bs (lowest_of q) old o' (meet same met c) ts × (r ≡ index_of same c (meet same met c))

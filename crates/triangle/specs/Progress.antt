@@ -1,17 +1,14 @@
--- How far a skin is written, triangle by triangle within a cube, and cube by cube, and what is written in the end. Assumes nothing: these
--- are definitions.
-use Rattle.std.specs.Prelude.{◌≡◌, ℕ, ◌-◌, ◌*◌, ◌^◌, ◌<◌, ◌≤◌, List, ◌++◌, map, length}
+-- How far a skin is written, cube by cube, and what is written in the end. Assumes nothing: these are definitions.
+use Rattle.std.specs.Prelude.{◌≡◌, ℕ, ◌-◌, ◌*◌, ◌^◌, ◌<◌, ◌≤◌, List, map, length}
 use Rattle.theory.specs.Grid.{Point}
-use Rattle.theory.specs.Skin.{Corner, Triangle, same, cube, skin}
+use Rattle.theory.specs.Skin.{Corner, Triangle, same, skin}
 use Rattle.theory.specs.Places.{place}
 use Rattle.theory_numbers.specs.Numbers.{renumber, corners_met, corner_list, numbered}
 use Rattle.theory_numbers.specs.Order.{before}
 use Rattle.block.specs.Scan.{size_x, size_y, size_z, inside}
 use Rattle.corner.specs.Fraction.{fraction_in}
 use Rattle.corner.specs.Buffer.{filled}
-use Rattle.triangle.specs.Cubes.{lowest_of}
-use Rattle.triangle.specs.Output.{filled_triangles, Holds, Knows}
-use Rattle.triangle.specs.declared.cube.Cube.{Cube}
+use Rattle.triangle.specs.Output.{filled_triangles, Holds}
 use Rattle.triangle.specs.declared.write.Out.{Out}
 
 -- the skin of a block, its corners in the order in which they are met, and its triangles by the numbers of these
@@ -40,21 +37,6 @@ RoomIn bs old = Room bs (length old.corners.now) (length old.triangles.now) (len
 pub record Written (bs : List ℕ) (old o : Out) (ts : List Triangle) : Type 0 where
   pub room : RoomIn bs old
   pub holds : Holds bs old o (corners_met ts) (map (renumber same (corners_met ts)) ts)
-
--- the cubes before the one at a point are written, and these triangles of it
-pub record Begun (bs : List ℕ) (p : Point) (old o : Out) (ts : List Triangle) : Type 0 where
-  pub room : RoomIn bs old
-  pub knows : Knows bs p old o (corners_met (earlier bs p ++ ts)) (map (renumber same (corners_met (earlier bs p ++ ts))) (earlier bs p ++ ts))
-
--- the next triangles of a cube are written behind those before them
-abbrev pub Adds : List ℕ → Cube → List Triangle → Out → Out → Type 0
-Adds bs k us o o' =
-    (old : Out) (ts more : List Triangle) → cube (inside bs) (lowest_of k) ≡ ts ++ (us ++ more) →
-    Begun bs (lowest_of k) old o ts → Begun bs (lowest_of k) old o' (ts ++ us)
-
--- the cubes from the one at p on, up to the one at q, are written
-abbrev pub Goes : List ℕ → Point → Point → Out → Out → Type 0
-Goes bs p q o o' = (old : Out) → Written bs old o (earlier bs p) → Written bs old o' (earlier bs q)
 
 -- THE SKIN IS WRITTEN: the places of its corners, and its triangles by numbers, at the front of the buffers, and nothing else
 pub record SkinWritten (bs corners triangles corners' triangles' : List ℕ) : Type 0 where

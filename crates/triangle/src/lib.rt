@@ -1,20 +1,24 @@
 // From a block's bytes to its corners and triangles, in a fixed order, in buffers of the caller's.
 #![tactic(auto)]
 
-ghost use Rattle.std.specs.Prelude.{◌≡◌, ◌*◌, Some, MatchResult};
-ghost use Rattle.block.specs.Scan.{bytes_in, size_x, size_y, size_z, refusal_of};
+ghost use Rattle.std.specs.Prelude.{◌≡◌, ◌<◌, ◌≤◌, Some, MatchResult};
+ghost use Rattle.block.specs.Scan.{refusal_of};
+ghost use Rattle.block.specs.declared.refusal.Refusal.TheVariants.{ShortBuffer};
 ghost use Rattle.triangle.specs.Built.{Built, Needed, Refused};
 
+mod cases;
 mod count;
 mod cube;
+mod few;
+mod scan;
+mod walk;
 mod write;
 
-use block::{Block, Refusal};
-use count::count_block;
-use write::write_block;
+use block::Refusal;
+use scan::Scan;
 
 // How many corners and how many triangles a skin has.
-#[derive(Clone, Copy, PartialEq, Eq, Debug)]
+#[derive(Clone, Copy, PartialEq, Eq, Default, Debug)]
 pub struct Counts {
     pub corners: u32,
     pub triangles: u32,
@@ -31,18 +35,14 @@ pub fn build(
 ) -> Result<Counts, Refusal>
     ensures cases { MatchResult result (Built bytes.now corners.old triangles.old work.old corners.new triangles.new) (Refused bytes.now corners.old triangles.old work.old corners.new triangles.new work.new) }
 {
-    let block = Block::read(bytes)?;
-    let counts = count_block(&block);
-    if corners.len() / 3 < counts.corners as usize {
-        return Err(Refusal::ShortBuffer(corners.len() / 3));
-    }
-    if triangles.len() / 4 < counts.triangles as usize {
-        return Err(Refusal::ShortBuffer(triangles.len() / 4));
-    }
-    if work.len() < 6 * points(&block) {
+    let scan = Scan::read(bytes)?;
+    let counts = scan.count();
+    fits(counts.corners, corners.len() / 3)?;
+    fits(counts.triangles, triangles.len() / 4)?;
+    if work.len() < 6 * scan.block.points() {
         return Err(Refusal::ShortBuffer(0));
     }
-    write_block(&block, corners, triangles, work);
+    scan.write(corners, triangles, work);
     Ok(counts)
 }
 
@@ -50,12 +50,15 @@ pub fn build(
 pub fn needed(bytes: &[u8]) -> Result<Counts, Refusal>
     ensures cases { MatchResult result (Needed bytes.now) (λ e. refusal_of bytes.now ≡ Some e) }
 {
-    let block = Block::read(bytes)?;
-    Ok(count_block(&block))
+    Ok(Scan::read(bytes)?.count())
 }
 
-fn points(block: &Block) -> usize
-    ensures value { result ≡ size_x (bytes_in block.entry) * (size_y (bytes_in block.entry) * size_z (bytes_in block.entry)) }
+// Whether so many have room in a buffer that holds `most`.
+fn fits(count: u32, most: usize) -> Result<(), Refusal>
+    ensures cases { MatchResult result (λ _. count ≤ most) (λ e. (most < count) × (e ≡ ShortBuffer most)) }
 {
-    block.size_x() as usize * (block.size_y() as usize * block.size_z() as usize)
+    if most < count as usize {
+        return Err(Refusal::ShortBuffer(most));
+    }
+    Ok(())
 }

@@ -14,7 +14,8 @@ use Rattle.theory_volume.specs.Sizes.{Small, most_triangles}
 use Rattle.theory_volume.proofs.Sizes.{six_volume_size}
 use Rattle.volume.specs.declared.Part.{Part}
 use Rattle.volume.specs.declared.Part.TheVariants.{Outer, Inner}
-use Rattle.volume.specs.Buffer.{place_in, triangle_at, part_at, first_triangles, first_parts}
+use Rattle.theory_parts.specs.Buffer.{triangle_at, part_at, first_triangles, first_parts}
+use Rattle.volume.specs.Buffer.{place_in}
 use Rattle.volume.specs.Measure.{part_of, count_of, volume_of, measured, all_measured, determinant_at}
 
 module _ {A : Type 0} (m : ℕ) where
@@ -129,19 +130,30 @@ module _ (cs ts : List ℕ) where
                 ∙ sym (measured_other n k (λ s. e (sym s)))
           ]
 
-  pub all_measured_past : (n m : ℕ) → m ≤ part_at ts n → all_measured cs ts n m ≡ all_measured cs ts (n + 1) m
-  all_measured_past n m l =
-      fill_by_all (measured cs ts (n + 1)) _ m (Inner 0 (pos 0)) (length-map-range_with_len (measured cs ts n) 0 m)
-      (λ k h. get_or-map-range_with_len (measured cs ts n) 0 m k k (Inner 0 (pos 0)) h (omega arith) ∙ sym (measured_other n k (λ s. omega arith)))
-
   pub measured_at : (n m p : ℕ) (d : Part) → p < m → get_or (all_measured cs ts n m) p d ≡ measured cs ts n p
   measured_at n m p d l = get_or-map-range_with_len (measured cs ts n) 0 m p p d l (omega arith)
 
   -- the part of the next triangle, as it is read
   pub own_part :
-      (parts : List Part) (i m : ℕ) → parts ≡ all_measured cs ts i m → part_at ts i < m →
-      get_or parts (part_at ts i) (Outer 0 (pos 0)) ≡ measured cs ts i (part_at ts i)
-  own_part parts i m e l = ap (λ us. get_or us (part_at ts i) (Outer 0 (pos 0))) e ∙ measured_at i m (part_at ts i) (Outer 0 (pos 0)) l
+      (parts : List Part) (n m p : ℕ) → parts ≡ all_measured cs ts n m → p ≡ part_at ts n → p < m →
+      get_or parts p (Outer 0 (pos 0)) ≡ measured cs ts n (part_at ts n)
+  own_part parts n m p is part_is l =
+      ap₂ (λ us q. get_or us q (Outer 0 (pos 0))) is part_is ∙ measured_at n m (part_at ts n) (Outer 0 (pos 0)) (omega (arith, part_is))
+
+  -- one more triangle, with the number of its part and its determinant as they are read
+  pub all_measured_with :
+      (parts : List Part) (n m p : ℕ) (grown_part : Part) (d : ℤ) → parts ≡ all_measured cs ts n m → p ≡ part_at ts n → p < m →
+      grown_part ≡ part_of (count_of (get_or parts p (Outer 0 (pos 0))) + 1) (volume_of (get_or parts p (Outer 0 (pos 0))) +ℤ d) →
+      d ≡ determinant_at cs ts n → set parts p grown_part ≡ all_measured cs ts (n + 1) m
+  all_measured_with parts n m p grown_part d is part_is l grown_is d_is =
+      ap₂ (λ us q. set us q grown_part) is part_is
+      ∙ ap (set (all_measured cs ts n m) (part_at ts n)) (grown_is ∙ ap₂ (λ q v. part_of (count_of q + 1) (volume_of q +ℤ v)) (own_part parts n m p is part_is l) d_is)
+      ∙ all_measured_more n m (omega (arith, part_is))
+
+  pub all_measured_past : (n m : ℕ) → m ≤ part_at ts n → all_measured cs ts n m ≡ all_measured cs ts (n + 1) m
+  all_measured_past n m l =
+      fill_by_all (measured cs ts (n + 1)) _ m (Inner 0 (pos 0)) (length-map-range_with_len (measured cs ts n) 0 m)
+      (λ k h. get_or-map-range_with_len (measured cs ts n) 0 m k k (Inner 0 (pos 0)) h (omega arith) ∙ sym (measured_other n k (λ s. omega arith)))
 
   pub none_measured : (m : ℕ) → replicate m (part_of 0 (pos 0)) ≡ all_measured cs ts 0 m
   unfolding measured six_volume

@@ -1,3 +1,4 @@
 pub mod Words
 pub mod Tests
 pub mod Growing
+pub mod Chunks

@@ -1,3 +1,4 @@
 pub mod Buffer
 pub mod Measure
 pub mod Bounded
+pub mod Text

@@ -6,7 +6,8 @@ use Rattle.theory_volume.specs.Volume.{determinant, six_volume}
 use Rattle.theory_volume.specs.Sizes.{most_coordinate, most_triangles}
 use Rattle.volume.specs.declared.Part.{Part}
 use Rattle.volume.specs.declared.Part.TheVariants.{Outer, Inner}
-use Rattle.volume.specs.Buffer.{place_in, part_at, first_triangles, first_parts, corner_count, triangle_count}
+use Rattle.theory_parts.specs.Buffer.{part_at, first_triangles, first_parts, count_in}
+use Rattle.volume.specs.Buffer.{place_in, corner_count}
 
 -- a part of n triangles whose determinants sum up to v: it is seen from outside exactly if v is above 0
 abbrev pub part_of : ℕ → ℤ → Part
@@ -32,7 +33,7 @@ all_measured cs ts n m = map (measured cs ts n) (range_with_len 0 m)
 
 -- what is written of a skin in m parts
 abbrev pub parts_of : List ℕ → List ℕ → ℕ → List Part
-parts_of cs ts m = all_measured cs ts (triangle_count ts) m
+parts_of cs ts m = all_measured cs ts (count_in ts) m
 
 -- a test passes at 0, 1, … below n
 abbrev pub each_below : ℕ → (ℕ → Bool) → Bool
@@ -41,7 +42,7 @@ each_below (suc n) t = each_below n t && t n
 
 -- whole corners, whole triangles, and no more of these than a skin can have
 abbrev pub whole : List ℕ → List ℕ → Bool
-whole cs ts = length cs % 3 == 0 && (length ts % 4 == 0 && nat_le (triangle_count ts) most_triangles)
+whole cs ts = length cs % 3 == 0 && (length ts % 4 == 0 && nat_le (count_in ts) most_triangles)
 
 -- the coordinate at a place of the buffer is no larger than one of a skin
 abbrev pub low : List ℕ → ℕ → Bool
@@ -65,7 +66,7 @@ fine cs ts m i = cornered cs ts i && (nat_lt (part_at ts i) m && nat_le (unsigne
 -- WHAT CAN BE MEASURED, in m parts. There are at most 12 · 95³ triangles, each with a determinant of at most 2 ^ 34 in size, so that the sums
 -- stay below 2 ^ 58.
 unfoldable pub measurable : List ℕ → List ℕ → ℕ → Bool
-measurable cs ts m = whole cs ts && (each_below (length cs) (low cs) && each_below (triangle_count ts) (fine cs ts m))
+measurable cs ts m = whole cs ts && (each_below (length cs) (low cs) && each_below (count_in ts) (fine cs ts m))
 
 -- no coordinate is too large
 abbrev pub Low : List ℕ → Type 0

@@ -1,20 +1,25 @@
-// The volumes of a skin's parts: how many triangles each part has, and six times the volume that it encloses.
+// The volumes of a skin's parts: how many triangles each part has, and six times the volume that it encloses. Corners and triangles are
+// lent as two flat buffers, as callers have them.
 #![tactic(auto)]
 
-ghost use Rattle.std.specs.Prelude.{◌≡◌, ◌+◌, ◌*◌, ◌^◌, ◌<◌, ◌≤◌, true, false, length, ℤ, ◌+ℤ◌, unsigned_abs};
+ghost use Rattle.std.specs.Prelude.{Some, is_some, ◌≡◌, ◌+◌, ◌*◌, ◌^◌, ◌<◌, ◌≤◌, true, false, length, ℤ, ◌+ℤ◌, unsigned_abs};
 ghost use Rattle.theory.specs.Grid.{pt};
 ghost use Rattle.theory_volume.specs.Volume.{determinant};
 ghost use Rattle.theory_volume.specs.Sizes.{crossed, most_triangles};
-ghost use Rattle.volume.specs.Buffer.{place_in, corner_count, triangle_count};
+ghost use Rattle.theory_parts.specs.Buffer.{count_in};
+ghost use Rattle.volume.specs.Buffer.{place_in, corner_count};
 ghost use Rattle.volume.specs.Measure.{part_of, count_of, volume_of, all_measured, parts_of, each_below, whole, low, determinant_at, cornered, fine, measurable, Low};
 ghost use Rattle.volume.specs.Bounded.{bounded};
+ghost use Rattle.volume.specs.Text.{text_of};
+
+use std::fmt;
 
 // The largest coordinate of a skin, in 256ths of a grid step, the most triangles of one, and the largest determinant of one triangle.
-const MOST_COORDINATE: u32 = 24320;
+const MOST_COORDINATE: u32 = 256 * 95;
 
-const MOST_TRIANGLES: usize = 10288500;
+const MOST_TRIANGLES: usize = 12 * 95 * 95 * 95;
 
-const LARGEST_DETERMINANT: u64 = 17179869184;
+const LARGEST_DETERMINANT: u64 = 1 << 34;
 
 // A part of a skin, seen from outside or from inside. Its six volumes, in 256ths of a grid step along each axis, are above 0 exactly if it
 // is seen from outside.
@@ -36,8 +41,7 @@ pub fn measure(corners: &[u32], triangles: &[u32], parts: &mut [Part]) -> bool
     if !measurable(corners, triangles, parts.len()) {
         return false;
     }
-    parts.fill(Part::new(0, 0));
-    add_up(corners, triangles, parts);
+    measure_skin(corners, triangles, parts);
     true
 }
 
@@ -47,13 +51,37 @@ pub fn measure_skin(corners: &[u32], triangles: &[u32], parts: &mut [Part])
     ensures written { parts.new ≡ parts_of corners.now triangles.now (length parts.old) }
 {
     parts.fill(Part::new(0, 0));
-    let count = triangles.len() / 4;
-    for i in 0..count {
-        add_triangle(corners, triangles, i, parts);
+    let corners = Corners {
+        coordinates: corners,
+    };
+    for t in triangles.as_chunks::<4>().0 {
+        // No `get_mut`: nothing is known of what a slice holds after a write through it.
+        let owner = t[3] as usize;
+        if owner < parts.len() {
+            parts[owner] = parts[owner].with(corners.determinant(t));
+        }
     }
 }
 
 impl Part {
+    // How many triangles the part has.
+    pub fn triangles(self) -> u32
+        ensures value { result ≡ count_of self }
+    {
+        match self {
+            Part::Outer { triangles, .. } | Part::Inner { triangles, .. } => triangles,
+        }
+    }
+
+    // Six times the volume that it encloses.
+    pub fn six_volumes(self) -> i64
+        ensures value { result ≡ volume_of self }
+    {
+        match self {
+            Part::Outer { six_volumes, .. } | Part::Inner { six_volumes, .. } => six_volumes,
+        }
+    }
+
     fn new(triangles: u32, six_volumes: i64) -> Part
         ensures value { result ≡ part_of triangles six_volumes }
     {
@@ -77,43 +105,21 @@ impl Part {
         requires small { unsigned_abs determinant ≤ 2 ^ 34 }
         ensures value { result ≡ part_of (count_of self + 1) (volume_of self +ℤ determinant) }
     {
-        match self {
-            Part::Outer {
-                triangles,
-                six_volumes,
-            } => Part::new(triangles + 1, six_volumes + determinant),
-            Part::Inner {
-                triangles,
-                six_volumes,
-            } => Part::new(triangles + 1, six_volumes + determinant),
-        }
+        Part::new(self.triangles() + 1, self.six_volumes() + determinant)
     }
 }
 
-// Adds each triangle to its part.
-fn add_up(corners: &[u32], triangles: &[u32], parts: &mut [Part])
-    requires measurable { measurable corners.now triangles.now (length parts.old) ≡ true }
-    requires empty { parts.old ≡ all_measured corners.now triangles.now 0 (length parts.old) }
-    ensures written { parts.new ≡ parts_of corners.now triangles.now (length parts.old) }
-{
-    for i in 0..triangles.len() / 4 {
-        let number = triangles[4 * i + 3] as usize;
-        let part = parts[number];
-        parts[number] = part.with(determinant_at(corners, triangles, i));
-    }
-}
+impl fmt::Display for Part {
+    ghost output = { λ p. Some (text_of p) };
 
-// Adds the triangle at a place of the order to its part, if `parts` has an entry for that.
-fn add_triangle(corners: &[u32], triangles: &[u32], i: usize, parts: &mut [Part])
-    requires bounded { bounded corners.now triangles.now ≡ true }
-    requires there { i < triangle_count triangles.now }
-    requires before { parts.old ≡ all_measured corners.now triangles.now i (length parts.old) }
-    ensures added { parts.new ≡ all_measured corners.now triangles.now (i + 1) (length parts.old) }
-{
-    let owner = triangles[4 * i + 3] as usize;
-    if owner < parts.len() {
-        let before = parts[owner];
-        parts[owner] = before.with(determinant_at(corners, triangles, i));
+    fn fmt<W: fmt::Write>(&self, f: &mut fmt::Formatter<W>) -> fmt::Result {
+        let side = match self {
+            Part::Outer { .. } => "outer",
+            Part::Inner { .. } => "inner",
+        };
+        let triangles = self.triangles();
+        let six_volumes = self.six_volumes();
+        write!(f, "{side} triangles {triangles} six volumes {six_volumes}")
     }
 }
 
@@ -124,18 +130,82 @@ fn measurable(corners: &[u32], triangles: &[u32], parts: usize) -> bool
     if !whole(corners, triangles) {
         return false;
     }
-    if !low(corners) {
+    let Some(corners) = Corners::low(corners) else {
         return false;
-    }
-    all_fine(corners, triangles, parts)
+    };
+    triangles
+        .as_chunks::<4>()
+        .0
+        .iter()
+        .all(|t| corners.fine(t, parts))
 }
 
-// One coordinate of the vector product of two rows.
-fn crossed(e: u16, g: u16, i: u16, j: u16) -> i64
-    ensures value { result ≡ crossed e g i j }
-    ensures bound { unsigned_abs result ≤ 2 ^ 32 }
+// Whether there are whole corners and whole triangles, and no more of these than a skin can have.
+fn whole(corners: &[u32], triangles: &[u32]) -> bool
+    ensures value { result ≡ whole corners.now triangles.now }
 {
-    e as i64 * j as i64 - g as i64 * i as i64
+    corners.len() % 3 == 0 && triangles.len() % 4 == 0 && triangles.len() / 4 <= MOST_TRIANGLES
+}
+
+// Corners of which no coordinate is larger than one of a skin.
+#[derive(Drop)]
+struct Corners<'a> {
+    coordinates: &'a [u32],
+    ghost low: { Low coordinates.now },
+}
+
+impl<'a> Corners<'a> {
+    // The corners with these coordinates, if they are low.
+    fn low(coordinates: &'a [u32]) -> Option<Self>
+        ensures value { is_some result ≡ each_below (length coordinates.now) (low coordinates.now) }
+        ensures same { (c : _) → result ≡ Some c → c.coordinates.now ≡ coordinates.now }
+    {
+        if coordinates.iter().all(|x| *x <= MOST_COORDINATE) {
+            Some(Corners { coordinates })
+        } else {
+            None
+        }
+    }
+
+    // The place of the corner with a number.
+    fn place(&self, corner: u32) -> Place
+        requires there { corner < corner_count self.now.coordinates.now }
+        ensures value { pt result.x result.y result.z ≡ place_in self.now.coordinates.now corner }
+    {
+        let first = 3 * corner as usize;
+        Place {
+            x: self.coordinates[first] as u16,
+            y: self.coordinates[first + 1] as u16,
+            z: self.coordinates[first + 2] as u16,
+        }
+    }
+
+    // The determinant of a triangle.
+    fn determinant(&self, triangle: &[u32; 4]) -> i64
+        requires cornered { cornered self.now.coordinates.now triangle.now 0 ≡ true }
+        ensures value { result ≡ determinant_at self.now.coordinates.now triangle.now 0 }
+    {
+        let [a, b, c, _] = *triangle;
+        determinant(self.place(a), self.place(b), self.place(c))
+    }
+
+    // Whether the numbers of a triangle's corners are in use.
+    fn cornered(&self, triangle: &[u32; 4]) -> bool
+        ensures value { result ≡ cornered self.now.coordinates.now triangle.now 0 }
+    {
+        let count = self.coordinates.len() / 3;
+        let [a, b, c, _] = *triangle;
+        (a as usize) < count && (b as usize) < count && (c as usize) < count
+    }
+
+    // Whether a triangle can be measured: its corners and its part are there, and its determinant is no larger than one of a skin.
+    fn fine(&self, triangle: &[u32; 4], parts: usize) -> bool
+        ensures value { result ≡ fine self.now.coordinates.now triangle.now parts 0 }
+    {
+        self.cornered(triangle)
+            && (triangle[3] as usize) < parts
+            && self.determinant(triangle).unsigned_abs() <= LARGEST_DETERMINANT
+    }
 }
 
 // Where a corner lies.
@@ -157,83 +227,10 @@ fn determinant(a: Place, b: Place, c: Place) -> i64
     x + y + z
 }
 
-// The place of the corner with a number.
-fn corner_place(corners: &[u32], corner: u32) -> Place
-    requires low { Low corners.now }
-    requires there { corner < corner_count corners.now }
-    ensures value { pt result.x result.y result.z ≡ place_in corners.now corner }
+// One coordinate of the vector product of two rows.
+fn crossed(e: u16, g: u16, i: u16, j: u16) -> i64
+    ensures value { result ≡ crossed e g i j }
+    ensures bound { unsigned_abs result ≤ 2 ^ 32 }
 {
-    let first = 3 * corner as usize;
-    Place {
-        x: corners[first] as u16,
-        y: corners[first + 1] as u16,
-        z: corners[first + 2] as u16,
-    }
-}
-
-// The determinant of the triangle at a place of the order.
-fn determinant_at(corners: &[u32], triangles: &[u32], i: usize) -> i64
-    requires low { Low corners.now }
-    requires there { i < triangle_count triangles.now }
-    requires cornered { cornered corners.now triangles.now i ≡ true }
-    ensures value { result ≡ determinant_at corners.now triangles.now i }
-{
-    let a = corner_place(corners, triangles[4 * i]);
-    let b = corner_place(corners, triangles[4 * i + 1]);
-    let c = corner_place(corners, triangles[4 * i + 2]);
-    determinant(a, b, c)
-}
-
-// Whether there are whole corners and whole triangles, and no more of these than a skin can have.
-fn whole(corners: &[u32], triangles: &[u32]) -> bool
-    ensures value { result ≡ whole corners.now triangles.now }
-{
-    corners.len() % 3 == 0 && triangles.len() % 4 == 0 && triangles.len() / 4 <= MOST_TRIANGLES
-}
-
-// Whether no coordinate is larger than one of a skin.
-fn low(corners: &[u32]) -> bool
-    ensures value { result ≡ each_below (length corners.now) (low corners.now) }
-{
-    for x in corners {
-        if *x > MOST_COORDINATE {
-            return false;
-        }
-    }
-    true
-}
-
-// Whether the numbers of a triangle's corners are in use.
-fn cornered(corners: &[u32], triangles: &[u32], i: usize) -> bool
-    requires { i < triangle_count triangles.now }
-    ensures value { result ≡ cornered corners.now triangles.now i }
-{
-    let count = corners.len() / 3;
-    (triangles[4 * i] as usize) < count
-        && (triangles[4 * i + 1] as usize) < count
-        && (triangles[4 * i + 2] as usize) < count
-}
-
-// Whether a triangle can be measured: its corners and its part are there, and its determinant is no larger than one of a skin.
-fn fine(corners: &[u32], triangles: &[u32], parts: usize, i: usize) -> bool
-    requires low { Low corners.now }
-    requires there { i < triangle_count triangles.now }
-    ensures value { result ≡ fine corners.now triangles.now parts i }
-{
-    cornered(corners, triangles, i)
-        && (triangles[4 * i + 3] as usize) < parts
-        && determinant_at(corners, triangles, i).unsigned_abs() <= LARGEST_DETERMINANT
-}
-
-// Whether all triangles can be measured.
-fn all_fine(corners: &[u32], triangles: &[u32], parts: usize) -> bool
-    requires { Low corners.now }
-    ensures value { result ≡ each_below (triangle_count triangles.now) (fine corners.now triangles.now parts) }
-{
-    for i in 0..triangles.len() / 4 {
-        if !fine(corners, triangles, parts, i) {
-            return false;
-        }
-    }
-    true
+    e as i64 * j as i64 - g as i64 * i as i64
 }

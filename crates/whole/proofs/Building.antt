@@ -11,7 +11,7 @@ use Rattle.block.proofs.Goodness.{taken}
 use Rattle.triangle.specs.Progress.{skin_of, corners_of}
 use Rattle.triangle.specs.Built.{short_buffer, Built}
 use Rattle.triangle.specs.declared.Counts.{Counts}
-use Rattle.part.specs.Buffer.{Takes}
+use Rattle.part.specs.Taking.{Takes}
 use Rattle.checker.specs.Verdict.{Sound}
 use Rattle.checker.proofs.Compared.{sound_in_range}
 use Rattle.whole.specs.Finished.{numbered_of}

@@ -9,7 +9,7 @@ use part::number_skin;
 use triangle::build;
 use volume::{Part, measure_skin};
 
-// How many corners, triangles and parts a skin has.
+// How many corners, triangles and parts a skin has: what was made, where a `mesh::Header` is only what some bytes say.
 #[derive(Clone, Copy, PartialEq, Eq, Debug)]
 pub struct Made {
     pub corners: u32,
@@ -20,7 +20,8 @@ pub struct Made {
 // Builds the skin of a block, numbers its parts and measures them: three coordinates for each corner, four numbers for each triangle (its
 // corners' numbers and its part's), and for each part, as far as `parts` has room, whether it is seen from outside, how many triangles it
 // has and what it encloses. `work` holds six numbers for each point of the block. A block or a buffer that is refused leaves every buffer as
-// it was. In time linear in the number of points, times the logarithm of the number of corners at worst; without a heap.
+// it was. In time linear in the number of points, times the logarithm of the number of corners at worst; without a heap. Each buffer is
+// lent on its own: callers have them apart, and a struct of them would only be taken apart again.
 pub fn make_skin(
     bytes: &[u8],
     corners: &mut [u32],

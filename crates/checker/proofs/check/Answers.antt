@@ -1,6 +1,9 @@
-use Rattle.std.proofs.Common.{length, Some, None, subst, arith}
+use Rattle.std.proofs.Common.{◌≡◌, ℕ, List, length, Some, None, Result, Ok, Err, subst, arith}
+use Rattle.std.specs.Result.{MatchResult, result_err}
 use Rattle.std.proofs.lemmas.Result.{err_from_is_err_and}
-use Rattle.checker.specs.Verdict.{RulesVerdict, Enough, Answer}
+use Rattle.block.specs.declared.refusal.Refusal.{Refusal}
+use Rattle.mesh.specs.Bytes.{length_fault}
+use Rattle.checker.specs.Verdict.{Good, RulesVerdict, Enough, Answer}
 use Rattle.checker.specs.Verdict.Verdict.{right_length}
 use Rattle.checker.specs.Verdict.Answer.{wrong_length, too_little, told}
 use Rattle.checker.proofs.Verdicts.{good_if_accepted, good_if_enough}
@@ -18,18 +21,21 @@ returns-then-work-work_needed c =
     let a = too_little read.1.verdict (subst (λ bs. Enough bs (length c.args.work.now) → ⊥) read.0 (omega arith)) in
     record { answer = a; good = good_if_enough c.args.bytes.now (length c.args.work.now) _ a }
 
-pub returns-in-Some : goal.returns-in-Some
-returns-in-Some c =
-    let read = c.in_ok-skin.ensures.cases in
-    let a : Answer c.args.bytes.now (length c.args.work.now) (Some c.in-Some.refusal) =
-    told read.1.verdict (subst (λ bs. Enough bs (length c.args.work.now)) read.0 (omega arith))
-    (right_length read.1.verdict (subst (λ bs. RulesVerdict bs (Some c.in-Some.refusal)) read.0 c.in-Some.ensures.verdict)) in
-    record { answer = a; good = good_if_enough c.args.bytes.now (length c.args.work.now) c.in-Some.refusal a }
+-- the rules' verdict on bytes that are taken, with enough work, is the answer
+answered :
+    (bs : List ℕ) (room : ℕ) (r : Result (Unit {0}) Refusal) → length_fault bs ≡ None → Enough bs room → RulesVerdict bs (result_err r) →
+    MatchResult r (λ _. Answer bs room None) (λ e. Answer bs room (Some e)) × MatchResult r (λ _. Good bs) (λ e. Good bs → Enough bs room → ⊥)
+answered bs room (Ok x) taken enough v =
+    let a = told taken enough (right_length taken v) in
+    (a, good_if_accepted bs room a)
+answered bs room (Err e) taken enough v =
+    let a = told taken enough (right_length taken v) in
+    (a, good_if_enough bs room e a)
 
-pub returns-in-None : goal.returns-in-None
-returns-in-None c =
+pub returns : goal.returns
+returns c =
     let read = c.in_ok-skin.ensures.cases in
-    let a : Answer c.args.bytes.now (length c.args.work.now) None =
-    told read.1.verdict (subst (λ bs. Enough bs (length c.args.work.now)) read.0 (omega arith))
-    (right_length read.1.verdict (subst (λ bs. RulesVerdict bs None) read.0 c.in-None.ensures.verdict)) in
-    record { answer = a; good = good_if_accepted c.args.bytes.now (length c.args.work.now) a }
+    let room = length c.args.work.now in
+    let r = c.check_rules.result in
+    let a = answered c.args.bytes.now room r read.1.verdict (subst (λ bs. Enough bs room) read.0 (omega arith)) (subst (λ bs. RulesVerdict bs (result_err r)) read.0 c.check_rules.ensures.verdict) in
+    record { answer = a.0; good = a.1 }

@@ -2,7 +2,7 @@
 use Rattle.std.proofs.Common.{◌≡◌, ◌+◌, ◌*◌, map, length, set, sym, subst, arith}
 use Rattle.std.specs.List.{range_with_len}
 use Rattle.theory_parts.specs.Parts.{InTurn}
-use Rattle.part.specs.Buffer.{part_at, count_in}
+use Rattle.theory_parts.specs.Buffer.{part_at, count_in}
 use Rattle.part.proofs.Turns.{Turn, turn_none, turn_old, turn_new, turn_room, turn_parts}
 use Rattle.part.proofs.give_numbers.Goals as goal
 use Rattle.part.proofs.give_numbers.Goals.{then-number-count, else-number-count}

@@ -7,7 +7,7 @@ use Rattle.mesh.proofs.Skin.coordinate.Goals as goal
 pub returns-then-i-corners : goal.returns-then-i-corners
 returns-then-i-corners c =
     let bs = c.args.self.now.bytes.now in
-    record { value = c.short.ensures.value ∙ sym (get_or_listed (λ i. short_at bs (12 + 2 * i)) (3 * corner_count bs) c.args.i (omega arith)) }
+    record { value = c.from.ensures ∙ c.short.ensures.value ∙ sym (get_or_listed (λ i. short_at bs (12 + 2 * i)) (3 * corner_count bs) c.args.i (omega arith)) }
 
 pub returns-else-i-corners : goal.returns-else-i-corners
 returns-else-i-corners c =

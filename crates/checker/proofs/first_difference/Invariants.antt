@@ -1,9 +1,0 @@
-use Rattle.mesh.specs.Bytes.{part_count, triangles_in}
-use Rattle.part.specs.Buffer.{parts_in}
-use Rattle.checker.specs.Verdict.{All}
-use Rattle.checker.specs.Passes.{SameNumber}
-use Rattle.checker.proofs.first_difference.Given as goal
-
--- the numbers of the triangles before i are the same
-abbrev pub invariant-loop-i : goal.invariant-loop-i
-invariant-loop-i l = All (SameNumber (triangles_in l.skin.bytes.now) (part_count l.skin.bytes.now) (parts_in l.numbers) l.parts) l.i
