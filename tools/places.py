@@ -35,22 +35,22 @@ def block(text, at):
     return start, len(text)
 
 
+def head_end(text, i):
+    """The next brace or semicolon that stands in no bracket or parenthesis."""
+    depth = 0
+    while i < len(text) and (depth or text[i] not in "{;"):
+        depth += {"(": 1, "[": 1, ")": -1, "]": -1}.get(text[i], 0)
+        i += 1
+    return i
+
+
 def functions(text):
-    """Name, head with its clauses, body, and line of each function that has a body."""
+    """Name, head with its clauses, body (none for a trait's), and line of each function."""
     for m in re.finditer(r"\bfn (\w+)", text):
-        i = m.end()
-        while i < len(text) and text[i] not in "{;":
-            i += 1
-        while True:  # clauses hold braces: the body is the first brace that begins a line, or ends the line of the head
-            line_start = text.rfind("\n", 0, i) + 1
-            clause = re.match(r"\s*(requires|ensures)", text[line_start:i]) or re.search(r"\b(requires|ensures)\b[^{]*$", text[m.start():i])
-            if text[i:i + 1] != "{" or not clause:
-                break
-            i = block(text, i)[1]
-            while i < len(text) and text[i] not in "{;":
-                i += 1
-        if text[i:i + 1] == "{":
-            yield m[1], text[m.start():i], text[i:block(text, i)[1]], text.count("\n", 0, m.start()) + 1
+        i = head_end(text, m.end())
+        while text[i:i + 1] == "{" and re.search(r"\b(requires|ensures)\*?(\s+\w+)?\s*$", text[m.start():i]):  # a clause's, no body's
+            i = head_end(text, block(text, i)[1])
+        yield m[1], text[m.start():i], text[i:block(text, i)[1]] if text[i:i + 1] == "{" else "", text.count("\n", 0, m.start()) + 1
 
 
 def line(text, at):

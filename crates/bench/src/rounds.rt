@@ -12,11 +12,6 @@ use triangle::{build, needed};
 use volume::{Part, measure};
 use whole::{Made, make_skin};
 
-const NOTHING: Part = Part::Inner {
-    triangles: 0,
-    six_volumes: 0,
-};
-
 // How many spans a round has: of its eight stages, and of those that a caller waits for.
 const SPANS: usize = 9;
 
@@ -58,7 +53,7 @@ impl Buffers {
             corners: vec![in heap; 0; 3 * corners]?,
             triangles: vec![in heap; 0; 4 * triangles]?,
             work: vec![in heap; 0; 6 * Block { bytes }.points()]?,
-            parts: vec![in heap; NOTHING; skin.made.parts as usize]?,
+            parts: vec![in heap; Part::NOTHING; skin.made.parts as usize]?,
             bytes: vec![in heap; 0; 12 + 6 * corners + 16 * triangles]?,
             space: vec![in heap; 0; work_needed(room.corners, room.triangles)]?,
             skin,

@@ -1,5 +1,6 @@
 pub mod Verdicts
 mod Reading
+mod Following
 mod Linking
 mod Counting
 mod Cycles

@@ -1,8 +1,9 @@
 -- Chains of the triangles that have a corner: how one more triangle is put before them, and how a sum goes along one. Assumes nothing.
-use Rattle.std.proofs.Common.{◌≡◌, ℕ, zero, suc, ◌+◌, ◌*◌, ◌<◌, ◌≤◌, eqb, ◌≢◌, List, map, length, get_or, set, sym, refl, ap, ◌∙◌, subst, inl, inr, ⊎_elim, zero-add, arith, length-set}
+use Rattle.std.proofs.Common.{◌≡◌, ℕ, zero, suc, ◌+◌, ◌*◌, ◌<◌, ◌≤◌, eqb, ◌≢◌, List, [], ◌∷◌, map, length, get_or, set, sym, refl, ap, ◌∙◌, subst, inl, inr, ⊎_elim, zero-add, arith, length-set}
 use Rattle.std.specs.List.{range_with_len}
 use Rattle.std.proofs.lemmas.List.{get_or-set_same, get_or-set_other}
 use Rattle.std.proofs.lemmas.Bool.{cases_lt, cases_eq, cases_order}
+use borrow.Rule.Slice.PartMut.{put_mid}
 use Rattle.theory.specs.Triangle.{Tri, tri, has, sum_of}
 use Rattle.theory.specs.Faces.{sum_below}
 use Rattle.theory.proofs.Sums.{sum_below_same}
@@ -67,6 +68,20 @@ module _ (xs : List ℕ) (p q r u v w : ℕ) where
 
   other : (k : ℕ) → k ≢ p → k ≢ q → k ≢ r → get_or thrice k 0 ≡ get_or xs k 0
   other k l m n = get_or-set_other (set (set xs p u) q v) r k w 0 n ∙ get_or-set_other (set xs p u) q k v 0 m ∙ get_or-set_other xs p k u 0 l
+
+-- three numbers written side by side at once
+pub side_by_side :
+    (xs ys : List ℕ) (p k u v w : ℕ) → ys ≡ u ∷ v ∷ w ∷ [] → k ≡ 3 → p + 2 < length xs → put_mid p k xs ys ≡ thrice xs p (p + 1) (p + 2) u v w
+side_by_side xs ys p k u v w e three l =
+    ap (put_mid p k xs) e ∙ ap (λ k. put_mid p k xs (u ∷ v ∷ w ∷ [])) three ∙ at p xs (omega arith)
+    ∙ ap (λ q. set (set (set xs p u) q v) (suc (suc p)) w) (omega arith) ∙ ap (λ r. set (set (set xs p u) (p + 1) v) r w) (omega arith)
+  where
+    at : (p : ℕ) (xs : List ℕ) → suc (suc p) < length xs → put_mid p 3 xs (u ∷ v ∷ w ∷ []) ≡ thrice xs p (suc p) (suc (suc p)) u v w
+    at p [] l = absurd (omega arith)
+    at zero (x ∷ []) l = absurd (omega arith)
+    at zero (x ∷ y ∷ []) l = absurd (omega arith)
+    at zero (x ∷ y ∷ z ∷ xs) l = refl
+    at (suc p) (x ∷ xs) l = ap (λ ys. x ∷ ys) (at p xs (omega arith))
 
 -- the triangle at place i put before the chains of its corners
 module _ (ns heads nexts : List ℕ) (i : ℕ) (at : i < count_in ns) (room : length nexts ≡ 3 * count_in ns)

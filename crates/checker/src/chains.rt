@@ -57,7 +57,7 @@ impl<'a> Chains<'a> {
         self.heads.len()
     }
 
-    // Goes along the chain of a corner.
+    // Goes along the chain of a corner. That it is in range is asked here: it is a fact about a corner and these chains.
     pub fn around(&self, corner: u32) -> Around<'a>
         requires { corner < length self.now.heads.now }
         ensures chains { result.chains ≡ self.now }
@@ -113,7 +113,7 @@ impl Iterator for Around<'_> {
 }
 
 // Chains the triangles that have a corner, for each corner, in their order: from the last triangle to the first, each is put before the
-// chains of its three corners.
+// chains of its three corners. Numbers, heads and nexts come apart, since this lays out what `Chains` then holds.
 fn link(numbers: &[u32], heads: &mut [u32], nexts: &mut [u32])
     requires sound { AllSound numbers.now (length heads.old) }
     requires room { length nexts.old ≡ 3 * count_in numbers.now }
@@ -122,12 +122,13 @@ fn link(numbers: &[u32], heads: &mut [u32], nexts: &mut [u32])
 {
     let count = numbers.len() / 4;
     heads.fill(count as u32);
+    // By number, since the number is what is written.
     for i in (0..count).rev() {
         link_triangle(numbers, i, heads, nexts);
     }
 }
 
-// Written one by one, since nothing is known of what is written through `as_chunks_mut`.
+// Puts one triangle before the chains of its corners.
 fn link_triangle(numbers: &[u32], i: usize, heads: &mut [u32], nexts: &mut [u32])
     requires at { (i < count_in numbers.now) × (i < 2 ^ 32) }
     requires sound { Sound (length heads.old) (triangle_at numbers.now i) }
@@ -137,9 +138,7 @@ fn link_triangle(numbers: &[u32], i: usize, heads: &mut [u32], nexts: &mut [u32]
 {
     let [a, b, c] = corners_at(numbers, i);
     let (a, b, c) = (a as usize, b as usize, c as usize);
-    nexts[3 * i] = heads[a];
-    nexts[3 * i + 1] = heads[b];
-    nexts[3 * i + 2] = heads[c];
+    nexts[3 * i..3 * i + 3].copy_from_slice(&[heads[a], heads[b], heads[c]]);
     heads[a] = i as u32;
     heads[b] = i as u32;
     heads[c] = i as u32;
@@ -180,7 +179,7 @@ fn seen_from(numbers: &[u32], i: usize, corner: u32) -> Seen
     }
 }
 
-// The corners of the triangle at a place.
+// The corners of the triangle at a place. Here, and in what asks for this, the place is a number: it is what chains are made of.
 pub fn corners_at(numbers: &[u32], i: usize) -> [u32; 3]
     requires { i < count_in numbers.now }
     ensures { result ≡ corners (triangle_at numbers.now i) }

@@ -36,6 +36,7 @@ pub fn check_sides(chains: &Chains, outs: &mut [u32], ins: &mut [u32]) -> Result
 }
 
 // For each corner, how many sides run to it from one corner, and how many from it to that one.
+// That a corner is in range is asked at each method: it is a fact about a corner and these chains, which neither holds alone.
 #[derive(Drop)]
 struct Tally<'a> {
     chains: &'a Chains<'a>,
@@ -76,6 +77,7 @@ impl Tally<'_> {
         worst
     }
 
+    // Goes the way of `count`, with other facts: there the counts must be shown to fit, here none to be left.
     fn clear(&mut self, corner: u32)
         requires corner { corner < length self.old.chains.now.heads.now }
         requires counts { Counts self.old.chains.now.numbers.now corner self.old.outs.now self.old.ins.now }

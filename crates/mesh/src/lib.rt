@@ -247,8 +247,8 @@ fn short(bytes: &[u8], at: usize) -> u16
     u16::from_le_bytes(bytes_at(bytes, at))
 }
 
-// The N bytes from a place on; one that is not there counts as 0. A loop, since `array::from_fn` leaves open in which state it calls its
-// closure.
+// The N bytes from a place on; one that is not there counts as 0. A loop, since of `array::from_fn` it is left open what state a call of its
+// closure leaves. Bytes and place are two, here and in what asks for this: a place may lie behind the end, where no slice begins.
 fn bytes_at<const N: usize>(bytes: &[u8], at: usize) -> [u8; N]
     requires { at + N < 2 ^ 64 }
     ensures value { (k : ℕ) → k < N → slice_index result k ≡ slice_index bytes.now (at + k) }

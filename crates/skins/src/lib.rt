@@ -41,11 +41,6 @@ pub enum Trouble {
 // Room for as many parts as nearly every skin has. How many there are is not known before the skin is made.
 const ROOM: usize = 65536;
 
-const NOTHING: Part = Part::Inner {
-    triangles: 0,
-    six_volumes: 0,
-};
-
 impl Skin {
     ghost use Rattle.skins.specs.Answer.{SkinOf, Why};
 
@@ -55,10 +50,10 @@ impl Skin {
         ensures cases { MatchResult result (SkinOf bytes.now) (Why bytes.now) }
     {
         let mut buffers = Buffers::new(heap, bytes)?;
-        let mut parts = vec![in heap; NOTHING; ROOM]?;
+        let mut parts = vec![in heap; Part::NOTHING; ROOM]?;
         let mut made = buffers.make(&mut parts);
         if made.parts as usize > ROOM {
-            parts = vec![in heap; NOTHING; made.parts as usize]?;
+            parts = vec![in heap; Part::NOTHING; made.parts as usize]?;
             made = buffers.make(&mut parts);
         }
         parts.truncate(made.parts as usize);

@@ -236,31 +236,40 @@ fn count_cut(heap: Global, bytes: &[u8]) -> Result<usize, AllocError> {
 // How often a byte too many is not refused. It is the last one, unless it stands before or among the header's first numbers: then these
 // count more than there is, and the place is the length.
 fn count_put_in(heap: Global, bytes: &[u8]) -> Result<usize, AllocError> {
-    let mut wrong = 0usize;
-    for i in 0..=bytes.len() {
-        let mut longer = bytes[..i].to_vec(heap)?;
-        longer.push(0)?;
-        longer.extend_from_slice(&bytes[i..])?;
-        let place = if i <= 4 { longer.len() } else { bytes.len() };
-        if checked(heap, longer.as_slice())? != Err(Refusal::WrongLength(place)) {
-            wrong = wrong.saturating_add(1);
-        }
-    }
-    Ok(wrong)
+    let answers: Vec<Verdict> = (0..=bytes.len())
+        .map(|i| checked_with_byte(heap, bytes, i))
+        .try_collect(heap)?;
+    Ok(
+        answers
+            .iter()
+            .enumerate()
+            .filter(|(i, said)| {
+                let place = bytes.len().saturating_add(usize::from(*i <= 4));
+                **said != Err(Refusal::WrongLength(place))
+            })
+            .count(),
+    )
 }
 
-// An open fan around corner 0. A loop, and no `map`: it is not found that what comes along a chain over a range is below its end.
+// What the checker says of bytes with one more at a place.
+fn checked_with_byte(heap: Global, bytes: &[u8], i: usize) -> Result<Verdict, AllocError> {
+    let (before, behind) = bytes.split_at(i.min(bytes.len()));
+    let mut longer = before.to_vec(heap)?;
+    longer.push(0)?;
+    longer.extend_from_slice(behind)?;
+    checked(heap, longer.as_slice())
+}
+
+// An open fan around corner 0.
 fn fan(heap: Global) -> Result<Skin, AllocError> {
-    let mut triangles = Vec::new(heap);
-    for i in 0..MANY {
-        triangles.push(Triangle {
-            corners: [0, i + 1, i + 2],
-            part: 0,
-        })?;
-    }
     Ok(Skin {
         corners: vec![in heap; Corner::ORIGIN; MANY as usize + 2]?,
-        triangles,
+        triangles: (0..MANY)
+            .map(|i| Triangle {
+                corners: [0, i.wrapping_add(1), i.wrapping_add(2)],
+                part: 0,
+            })
+            .collect(heap)?,
         parts: 1,
     })
 }

@@ -10,11 +10,6 @@ use triangle::{build, needed};
 use volume::{Part, measure};
 
 // What stands for a part before it is measured.
-const NOTHING: Part = Part::Inner {
-    triangles: 0,
-    six_volumes: 0,
-};
-
 // How much a skin has, three coordinates for each corner, four numbers for each triangle, and what each part measures.
 #[derive(Drop)]
 pub struct Made {
@@ -44,7 +39,7 @@ impl Made {
             work.as_mut_slice(),
         )
         .context("a library does not number its parts")?;
-        let mut parts = vec![in heap; NOTHING; count as usize]?;
+        let mut parts = vec![in heap; Part::NOTHING; count as usize]?;
         let measured = measure(
             corners.as_slice(),
             triangles.as_slice(),

@@ -16,12 +16,6 @@ const INSIDE: u8 = 255;
 
 const THRESHOLD: u8 = 128;
 
-// What stands in place of a part before it is measured.
-const NOTHING: Part = Part::Inner {
-    triangles: 0,
-    six_volumes: 0,
-};
-
 // The eight points around 2 2 1.
 const RING: [Point; 8] = [
     [1, 1, 1],
@@ -127,7 +121,7 @@ fn show_verdict(rt: &HostRuntime, skin: &Skin) -> anyhow::Result<()> {
 fn show_largest(rt: &HostRuntime) -> anyhow::Result<()> {
     let bytes = block(rt.alloc(), [96, 96, 96], alternates)?;
     let skin = made(rt, "alternating", bytes.as_slice())?;
-    let mut parts = vec![in rt.alloc(); NOTHING; skin.parts.len()]?;
+    let mut parts = vec![in rt.alloc(); Part::NOTHING; skin.parts.len()]?;
     let measured = measure(
         skin.corners.as_slice(),
         skin.triangles.as_slice(),

@@ -1,6 +1,7 @@
 -- A cube in the code: its points, who of them is inside, and the cases of its pieces. Assumes nothing: these are definitions.
 use Rattle.std.specs.Prelude.{◌≡◌, ℕ, suc, ◌+◌, ◌*◌, ◌<◌, Bool, true, false, ◌||◌, List, map, ◌==◌}
-use Rattle.theory.specs.Grid.{Point, pt, ◌⊕◌}
+use Rattle.std.specs.Coded.{le_prop}
+use Rattle.theory.specs.Grid.{Point, pt, ◌⊕◌, Amid}
 use Rattle.theory.specs.Triangle.{Edge, edge, one_if}
 use Rattle.theory.specs.Skin.{Corner, Triangle}
 use Rattle.theory.specs.Faces.{renamed}
@@ -45,6 +46,10 @@ pub record OfBlock (bs : List ℕ) (k : Cube) : Type 0 where
   pub along_z : suc k.lowest.z < size_z bs
   pub byte : k.bits < 256
   pub bits : (o : ℕ) → o < 8 → bit k.bits o ≡ inside bs (point_in k o)
+
+-- a point lies amid a grid in one way at most
+pub amid_prop : (x y z : ℕ) (p : Point) → IsProp (Amid x y z p)
+amid_prop x y z (pt u v w) = Prim.hlevel le_prop
 
 -- the corner between two points of a cube, given by their numbers
 abbrev pub corner_at : Cube → ℕ → ℕ → Corner

@@ -4,9 +4,8 @@ ghost use Rattle.triangle.specs.Progress.{skin_of};
 ghost use Rattle.triangle.specs.Passes.{bytes_of};
 
 use super::Counts;
-use super::cube::Cube;
 use super::scan::Scan;
-use super::walk::Pass;
+use super::walk::{Pass, Visit};
 
 impl Scan<'_> {
     pub fn count(&self) -> Counts
@@ -21,7 +20,8 @@ impl Scan<'_> {
 impl Pass for Counts {
     ghost has = { Counted };
 
-    fn visit(&mut self, scan: &Scan, cube: Cube) {
+    fn visit(&mut self, at: Visit) {
+        let Visit { scan, cube, .. } = at;
         self.corners += scan.cases.steps(cube.bits).len() as u32;
         self.triangles += scan.cases.triangles(cube.bits).len() as u32;
     }

@@ -32,6 +32,7 @@ impl<'a> Scan<'a> {
     }
 
     // The bits of the cubes of a row, by their places along x; None where no point of the row is inside, so that all its cubes are plain.
+    // An array and no `Few`, which takes its items one at a time: here the bits of all cubes are worked out at once.
     pub fn row(&self, y: u8, z: u8) -> Option<[u8; 96]>
         requires { (suc y < size_y (bytes_of self)) × (suc z < size_z (bytes_of self)) }
         ensures row { RowOf (bytes_of self.entry) y z result }

@@ -5,15 +5,14 @@ ghost use Rattle.theory.specs.Places.{place};
 ghost use Rattle.block.specs.Scan.{size_x, size_y};
 ghost use Rattle.grid.specs.Numbers.{number_of};
 ghost use Rattle.corner.specs.Fraction.{fraction_in};
-ghost use Rattle.triangle.specs.Cubes.{point_in, corner_at, OfBlock, Crosses};
+ghost use Rattle.triangle.specs.Cubes.{point_in, corner_at, Crosses};
 ghost use Rattle.triangle.specs.Cases.{new_steps, code_triangles};
 ghost use Rattle.triangle.specs.Output.{put_triangle, with_triangle, with_triangles, with_place, with_numbers, with_corner_met, new_corner, met_by, NewIn, KnownIn, numbered_by};
 ghost use Rattle.triangle.specs.Progress.{Room, Written, SkinWritten};
 ghost use Rattle.triangle.specs.Passes.{bytes_of};
 
-use super::cube::Cube;
 use super::scan::Scan;
-use super::walk::Pass;
+use super::walk::{Pass, Visit};
 use corner::{CornerNumber, fraction, write_corner};
 use grid::Grid;
 
@@ -47,47 +46,48 @@ impl Scan<'_> {
         };
         self.walk(&mut out);
     }
+}
 
+impl Visit<'_> {
     // Where `work` keeps the number of the corner on the edge that ends at this point of the cube, by its step there.
-    fn slot(&self, cube: Cube, upper: u8, step: u8) -> usize
-        requires { (OfBlock (bytes_of self) cube) × (0 < step) }
-        ensures value { result ≡ 6 * number_of (size_x (bytes_of self.entry)) (size_y (bytes_of self.entry)) (point_in cube upper) + (step - 1) }
+    fn slot(self, upper: u8, step: u8) -> usize
+        requires { 0 < step }
+        ensures value { result ≡ 6 * number_of (size_x (bytes_of self.entry.scan)) (size_y (bytes_of self.entry.scan)) (point_in self.entry.cube upper) + (step - 1) }
     {
+        let block = &self.scan.block;
         let grid = Grid {
-            a: self.block.size_x(),
-            b: self.block.size_y(),
-            c: self.block.size_z(),
+            a: block.size_x(),
+            b: block.size_y(),
+            c: block.size_z(),
         };
-        6 * grid.point_number(cube.point(upper)).0 as usize + step as usize - 1
+        6 * grid.point_number(self.cube.point(upper)).0 as usize + step as usize - 1
     }
 }
 
 impl Pass for Out<'_> {
     ghost has = { Written };
 
-    fn visit(&mut self, scan: &Scan, cube: Cube) {
-        if cube.is_plain() {
+    fn visit(&mut self, at: Visit) {
+        if at.cube.is_plain() {
             return;
         }
-        self.take_known(scan, cube);
-        self.meet_new(scan, cube);
-        self.write_triangles(scan, cube.bits);
+        self.take_known(at);
+        self.meet_new(at);
+        self.write_triangles(at.scan, at.cube.bits);
     }
 }
 
-// The scan and the cube are lent at each visit, and nothing holds both: a cube is gone when the next one comes.
 impl Out<'_> {
     // The numbers that `work` keeps for the edges of a cube that end at another point than its highest: those that lead there from a point
     // of the cube, so along no axis along which the cube ends below.
-    fn take_known(&mut self, scan: &Scan, cube: Cube)
-        requires { OfBlock (bytes_of scan) cube }
-        ensures known { KnownIn (bytes_of scan.entry) cube self.old.work.now self.new.numbers }
+    fn take_known(&mut self, at: Visit)
+        ensures known { KnownIn (bytes_of at.entry.scan) at.entry.cube self.old.work.now self.new.numbers }
         ensures long { length self.new.numbers ≡ 64 }
         ensures after { self.new ≡ with_numbers self.old self.new.numbers }
     {
-        let row = 6 * scan.block.size_x() as usize;
-        let layer = row * scan.block.size_y() as usize;
-        let lowest = scan.slot(cube, 0, 1);
+        let row = 6 * at.scan.block.size_x() as usize;
+        let layer = row * at.scan.block.size_y() as usize;
+        let lowest = at.slot(0, 1);
         for upper in 1..7usize {
             let first = lowest + 6 * (upper % 2) + row * (upper / 2 % 2) + layer * (upper / 4);
             if first + 6 <= self.work.len() {
@@ -102,51 +102,50 @@ impl Out<'_> {
     }
 
     // Writes the corners that are first met in a cube, in the order in which its triangles meet them.
-    fn meet_new(&mut self, scan: &Scan, cube: Cube)
-        requires { OfBlock (bytes_of scan) cube }
-        ensures met { self.new ≡ met_by (bytes_of scan.entry) cube (new_steps cube.bits) self.old }
+    fn meet_new(&mut self, at: Visit)
+        ensures met { self.new ≡ met_by (bytes_of at.entry.scan) at.entry.cube (new_steps at.entry.cube.bits) self.old }
     {
-        for step in scan.cases.steps(cube.bits) {
+        for step in at.scan.cases.steps(at.cube.bits) {
             self.numbers[56 + *step as usize] = self.met;
-            self.meet(scan, cube, *step);
+            self.meet(at, *step);
         }
     }
 
     // Writes the corner on the edge that leads by a step to the highest point of a cube, and keeps its number for later cubes. No other cube
     // has the long diagonal, whose step is 7.
-    fn meet(&mut self, scan: &Scan, cube: Cube, step: u8)
-        requires { NewIn (bytes_of scan) cube step }
-        ensures after { self.new ≡ with_corner_met (bytes_of scan.entry) self.old (new_corner cube step) }
+    fn meet(&mut self, at: Visit, step: u8)
+        requires { NewIn (bytes_of at.scan) at.cube step }
+        ensures after { self.new ≡ with_corner_met (bytes_of at.entry.scan) self.old (new_corner at.entry.cube step) }
     {
         let number = self.met;
-        self.put_new(scan, cube, step);
+        self.put_new(at, step);
         if step < 7 {
-            keep(self.work, scan.slot(cube, 7, step), number);
+            keep(self.work, at.slot(7, step), number);
         }
     }
 
-    fn put_new(&mut self, scan: &Scan, cube: Cube, step: u8)
-        requires { NewIn (bytes_of scan) cube step }
-        ensures after { self.new ≡ with_place self.old (place (fraction_in (bytes_of scan.entry)) (new_corner cube step)) }
+    fn put_new(&mut self, at: Visit, step: u8)
+        requires { NewIn (bytes_of at.scan) at.cube step }
+        ensures after { self.new ≡ with_place self.old (place (fraction_in (bytes_of at.entry.scan)) (new_corner at.entry.cube step)) }
     {
-        if cube.bits < 128 {
-            self.put_corner(scan, cube, 7 - step, 7);
+        if at.cube.bits < 128 {
+            self.put_corner(at, 7 - step, 7);
         } else {
-            self.put_corner(scan, cube, 7, 7 - step);
+            self.put_corner(at, 7, 7 - step);
         }
     }
 
     // Writes the next corner. There is always room: the lengths were compared before.
-    fn put_corner(&mut self, scan: &Scan, cube: Cube, inside: u8, outside: u8)
-        requires { Crosses (bytes_of scan) cube inside outside }
-        ensures after { self.new ≡ with_place self.old (place (fraction_in (bytes_of scan.entry)) (corner_at cube inside outside)) }
+    fn put_corner(&mut self, at: Visit, inside: u8, outside: u8)
+        requires { Crosses (bytes_of at.scan) at.cube inside outside }
+        ensures after { self.new ≡ with_place self.old (place (fraction_in (bytes_of at.entry.scan)) (corner_at at.entry.cube inside outside)) }
     {
-        let p = cube.point(inside);
-        let q = cube.point(outside);
+        let p = at.cube.point(inside);
+        let q = at.cube.point(outside);
         let k = fraction(
-            scan.block.value(p),
-            scan.block.value(q),
-            scan.block.threshold(),
+            at.scan.block.value(p),
+            at.scan.block.value(q),
+            at.scan.block.threshold(),
         );
         let number = self.met;
         if 3 * number as usize + 3 <= self.corners.len() {

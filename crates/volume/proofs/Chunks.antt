@@ -6,7 +6,7 @@ use Rattle.std.proofs.lemmas.List.{take_all}
 use Rattle.std.proofs.lemmas.List.Folds.{list_all_more}
 use Rattle.theory_parts.proofs.Chunks.{chunk_at, length-first_chunks}
 use Rattle.theory_volume.specs.Sizes.{most_coordinate}
-use Rattle.volume.specs.Measure.{each_below, low, fine}
+use Rattle.volume.specs.Measure.{each_below, low, fine, Low}
 
 -- what is said of a chunk's numbers is said of those at its place
 pub in_chunk :
@@ -19,6 +19,20 @@ in_chunk f ts n chunks i e l =
   where
     at : (k m : ℕ) → 4 * i + k ≡ m → k < 4 → get_or (get_or chunks i []) k 0 ≡ get_or ts m 0
     at k m is s = ap (λ us. get_or (get_or us i []) k 0) e ∙ chunk_at 4 n ts i k [] l s ∙ ap (λ j. get_or ts j 0) is
+
+-- and of a corner's chunk of three
+pub in_corner :
+    (cs : List ℕ) (chunks : List (List ℕ)) (n i k : ℕ) → chunks ≡ first_chunks 3 n cs → i < n → k < 3 →
+    get_or (get_or chunks i []) k 0 ≡ get_or cs (3 * i + k) 0
+in_corner cs chunks n i k e l s = ap (λ us. get_or (get_or us i []) k 0) e ∙ chunk_at 3 n cs i k [] l s
+
+pub each_low :
+    (cs : List ℕ) (chunks : List (List ℕ)) (n i : ℕ) → chunks ≡ first_chunks 3 n cs → i < n → Low cs →
+    (get_or (get_or chunks i []) 0 0 ≤ most_coordinate) × (get_or (get_or chunks i []) 1 0 ≤ most_coordinate) × (get_or (get_or chunks i []) 2 0 ≤ most_coordinate)
+each_low cs chunks n i e l below = (at 0 (omega arith), at 1 (omega arith), at 2 (omega arith))
+  where
+    at : (k : ℕ) → k < 3 → get_or (get_or chunks i []) k 0 ≤ most_coordinate
+    at k s = omega (arith, in_corner cs chunks n i k e l s, below (3 * i + k))
 
 -- a test of each element is one at each place
 module _ {X : Type 0} (p : X → Bool) (t : ℕ → Bool) (xs : List X) (d : X) (e : (i : ℕ) → i < length xs → p (get_or xs i d) ≡ t i) where

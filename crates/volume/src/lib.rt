@@ -64,6 +64,12 @@ pub fn measure_skin(corners: &[u32], triangles: &[u32], parts: &mut [Part])
 }
 
 impl Part {
+    // No triangles: what stands in place of a part before it is measured.
+    pub const NOTHING: Part = Part::Inner {
+        triangles: 0,
+        six_volumes: 0,
+    };
+
     // How many triangles the part has.
     pub fn triangles(self) -> u32
         ensures value { result ≡ count_of self }
@@ -172,11 +178,11 @@ impl<'a> Corners<'a> {
         requires there { corner < corner_count self.now.coordinates.now }
         ensures value { pt result.x result.y result.z ≡ place_in self.now.coordinates.now corner }
     {
-        let first = 3 * corner as usize;
+        let [x, y, z] = self.coordinates.as_chunks::<3>().0[corner as usize];
         Place {
-            x: self.coordinates[first] as u16,
-            y: self.coordinates[first + 1] as u16,
-            z: self.coordinates[first + 2] as u16,
+            x: x as u16,
+            y: y as u16,
+            z: z as u16,
         }
     }
 

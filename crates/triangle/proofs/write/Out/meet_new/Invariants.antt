@@ -6,4 +6,4 @@ use Rattle.triangle.proofs.write.Out.meet_new.Given as goal
 abbrev pub invariant-loop-step : goal.invariant-loop-step
 invariant-loop-step l =
     (length l.self.numbers ≡ 64)
-    × (met_by l.scan.block.bytes.now l.cube (drop l.step-index l.step-items) l.self ≡ met_by l.scan.block.bytes.now l.cube l.step-items l.fn.self)
+    × (met_by l.at.scan.now.block.bytes.now l.at.cube (drop l.step-index l.step-items) l.self ≡ met_by l.at.scan.now.block.bytes.now l.at.cube l.step-items l.fn.self)

@@ -54,8 +54,8 @@ loop-step-preserved c =
 
 pub returns-clause-known : goal.returns-clause-known
 returns-clause-known c =
-    let bs = c.args.scan.now.block.bytes.now in
-    let k = c.args.cube in
+    let bs = c.args.at.scan.now.block.bytes.now in
+    let k = c.args.at.cube in
     let work = c.args.self.now.work.now in
     let lowest : c.slot-lowest.result ≡ 6 * number_of (size_x bs) (size_y bs) (lowest_of k) = omega arith in
     let at :
@@ -65,5 +65,5 @@ returns-clause-known c =
     (λ i. slots_at (lowest i) (6 * c.size_x.ensures.value i) (6 * c.size_x.ensures.value i * c.size_y.ensures.value i) u)
     ∙ first_slot (size_x bs) (size_y bs) k u l in
     λ room u s p lu q ls e.
-    c.loop-upper.invariant.1 u s p (omega arith) q ls e (omega (arith, at u (omega arith), six_slots bs k u c.requires))
+    c.loop-upper.invariant.1 u s p (omega arith) q ls e (omega (arith, at u (omega arith), six_slots bs k u c.args.at.of_block))
     ∙ ap (λ n. get_or work (n + (s - 1)) 0) (at u (omega arith))
