@@ -1,5 +1,5 @@
 #!/usr/bin/env python3
-"""Makes the sample blocks beside this file: the same bytes every time.
+"""Makes the sample blocks beside this file, and where the gate runs them: the same bytes every time.
 
 A block is a, b, c, t, then a value for each point, x going fastest, then y, then z. Points on the border are 0.
 """
@@ -7,6 +7,7 @@ import math
 import os
 
 HERE = os.path.dirname(os.path.abspath(__file__))
+FOLDERS = [HERE, os.path.join(HERE, '..', 'crates', 'exhibits', 'data')]
 
 
 def write(name, a, b, c, t, value):
@@ -17,8 +18,9 @@ def write(name, a, b, c, t, value):
             for x in range(a):
                 border = x in (0, a - 1) or y in (0, b - 1) or z in (0, c - 1)
                 out.append(0 if border else max(0, min(255, int(value(x, y, z)))))
-    with open(os.path.join(HERE, name), 'wb') as f:
-        f.write(out)
+    for folder in FOLDERS:
+        with open(os.path.join(folder, name), 'wb') as f:
+            f.write(out)
 
 
 def level(inside_by):
