@@ -25,6 +25,7 @@ enum Fault {
 }
 
 // What went wrong was said where it could be, and whole, which an error keeps only in part: here only the status is left.
+// `skin` has the same lines: a library for them would hold nothing else.
 fn main(rt: HostRuntime) -> ExitCode {
     match answer(&rt) {
         Ok(()) => ExitCode::SUCCESS,

@@ -49,9 +49,6 @@ pub before_most : (ns : List ℕ) (j : ℕ) (h : Tri ℕ → ℕ) → ((k : ℕ)
 before_most ns zero h a = omega arith
 before_most ns (suc j) h a = let r = before_most ns j h (λ k l. a k (omega arith)) in let z = a j (omega arith) in omega arith
 
-pub stop : (ns : List ℕ) (c i j : ℕ) → Next ns c i j → Next ns c j j
-stop ns c i j n = record { from = omega arith; to = n.to; none = λ k a b. absurd (omega arith); here = n.here }
-
 -- three writes
 module _ (xs : List ℕ) (p q r u v w : ℕ) where
   abbrev thrice : List ℕ

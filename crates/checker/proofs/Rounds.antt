@@ -1,18 +1,12 @@
--- Steps from neighbour to neighbour, of which each clears what it leaves: what one more step shows, and that there is none where it is stuck.
--- Assumes nothing.
+-- Steps from neighbour to neighbour, of which each clears what it leaves: what one more step shows. Assumes nothing.
 use Rattle.std.proofs.Common.{◌≡◌, ℕ, ◌+◌, ◌<◌, ◌≢◌, List, length, get_or, set, sym, ap, ◌∙◌, ⊎_elim, add-one, arith}
 use Rattle.std.proofs.lemmas.List.{get_or-set_same, get_or-set_other}
 use Rattle.std.proofs.lemmas.Bool.{cases_lt}
-use Rattle.checker.specs.Passes.{nobody, led, led_in, Steps, Round, Cleared}
+use Rattle.checker.specs.Passes.{nobody, led, led_in, Steps, Cleared}
 use Rattle.checker.proofs.Cycles.{led_next}
 
 -- after k steps from s, at `here`
 module _ (follow now : List ℕ) (s k here : ℕ) (is : here ≡ led_in follow s k) (cleared : Cleared follow s k now) where
-  pub stuck : get_or now here 0 ≡ nobody → (n : ℕ) → k < n → Round follow s n → ⊥
-  stuck none n l round =
-      round.steps.onward k l
-      (ap (λ x. get_or follow x 0) (sym is) ∙ sym (cleared.kept here (λ j m e. round.steps.apart j k m l (e ∙ is))) ∙ none)
-
   module _ (some : get_or now here 0 ≢ nobody) where
     fresh : (j : ℕ) → j < k → led_in follow s j ≡ here → ⊥
     fresh j m e = some (ap (λ x. get_or now x 0) (sym e) ∙ cleared.gone j m)

@@ -16,6 +16,7 @@ fn main(rt: HostRuntime) -> anyhow::Result<()> {
     Ok(())
 }
 
+// The checker in memory of its own is four lines, here as in `trials`.
 fn show(rt: &HostRuntime, name: &str, bytes: &[u8]) -> anyhow::Result<()> {
     let skin = Skin::of(rt.alloc(), bytes).map_err(|trouble| anyhow!("{name}: {trouble}"))?;
     let made = skin.made;

@@ -4,14 +4,11 @@ use mathlib.Core.Logic.Iff
 use Rattle.std.proofs.lemmas.Bool.{cases_lt}
 use Rattle.theory.specs.Triangle.{has}
 use Rattle.theory_parts.specs.Parts.{Connected, step, back, onward, ShareTriangle}
-use Rattle.part.specs.Forest.{Forest, Alone, Link, Plus, Alike, Tells}
+use Rattle.part.specs.Forest.{Alone, Link, Plus, Alike, Tells}
 use Rattle.theory_parts.specs.Buffer.{triangle_at, count_in, triangles_in}
 use Rattle.part.specs.Passes.{Spoke, Told}
 use Rattle.part.proofs.Connection.{connected_same, alike_trans, alike_tells}
 use Rattle.part.proofs.Places.{stands_in, in_stands, has_one, one_had}
-
-pub alone_forest : (p : List ℕ) → Alone p → Forest p
-alone_forest p alone a l = omega (arith, alone a l)
 
 pub no_spokes : (ns p : List ℕ) → Alone p → Alike (Link p) (Spoke ns 0)
 no_spokes ns p alone =

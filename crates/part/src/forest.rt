@@ -74,7 +74,7 @@ impl<'a> Trees<'a> {
     {
         let mut x = a;
         let mut y = b;
-        // A `while`: nothing counts how long the two ways are.
+        // A `while`: nothing counts how long the two ways are. The branches mirror each other: each is written for the way that it moves.
         while self.parents[x as usize] != self.parents[y as usize] {
             if self.parents[x as usize] > self.parents[y as usize] {
                 let up = self.parents[x as usize];

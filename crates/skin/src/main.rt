@@ -18,6 +18,7 @@ BLOCK is a file of a block's bytes, or - for standard input. The skin's bytes ar
 A block that is refused is answered by 'refused N at P', and status 1.";
 
 // What went wrong was said where it could be, and whole, which an error keeps only in part: here only the status is left.
+// `check_skin` has the same lines: a library for them would hold nothing else.
 fn main(rt: HostRuntime) -> ExitCode {
     match answer(&rt) {
         Ok(()) => ExitCode::SUCCESS,
