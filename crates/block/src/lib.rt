@@ -7,10 +7,10 @@ ghost use Rattle.theory.specs.Grid.{pt};
 ghost use Rattle.grid.specs.Places.{at};
 ghost use Rattle.block.specs.Scan.{bytes_in, in_range, at_end, size_x, size_y, size_z, threshold, byte_of, value_of, within, inside, on_border, row, layer, points, fault_at, faults, header_fault, excess, refusal_of, Taken, TakenIfGood};
 
-use grid::Point;
-
 mod refusal;
 
+// Callers name the points of a block by it.
+pub use grid::Point;
 pub use refusal::Refusal;
 
 // How few and how many points there may be along an axis.
