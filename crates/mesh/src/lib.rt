@@ -27,6 +27,10 @@ impl Header {
     pub fn read(bytes: &[u8]) -> Result<Header, Refusal>
         ensures cases { MatchResult result (λ h. Counted bytes.now h.corners h.triangles h.parts) (λ e. length_fault bytes.now ≡ Some e) }
     {
+        // What follows would refuse them too; it is tested first so that whoever reads on from here need not ask for the header's bytes again.
+        if bytes.len() < HEADER {
+            return Err(Refusal::WrongLength(bytes.len()));
+        }
         let header = Header::said_in(bytes);
         let end = header.behind_corners() + 16 * header.triangles as usize;
         if bytes.len() != end {
@@ -73,21 +77,21 @@ impl<'a> Skin<'a> {
     pub fn corners(&self) -> u32
         ensures value { result ≡ corner_count (bytes_in self.entry) }
     {
-        self.header().corners
+        number(self.bytes, 0)
     }
 
     // How many triangles there are.
     pub fn triangles(&self) -> u32
         ensures value { result ≡ triangle_count (bytes_in self.entry) }
     {
-        self.header().triangles
+        number(self.bytes, 4)
     }
 
     // How many parts there are.
     pub fn parts(&self) -> u32
         ensures value { result ≡ part_count (bytes_in self.entry) }
     {
-        self.header().parts
+        number(self.bytes, 8)
     }
 
     // A coordinate, of which each corner has three; 0 past the last. Constant time.
@@ -106,7 +110,7 @@ impl<'a> Skin<'a> {
         ensures value { result ≡ slice_index (triangles_in (bytes_in self.entry)) i }
     {
         if i < 4 * self.triangles() as usize {
-            number(self.bytes, self.header().behind_corners() + 4 * i)
+            number(self.bytes, HEADER + 6 * self.corners() as usize + 4 * i)
         } else {
             0
         }
@@ -117,16 +121,10 @@ impl<'a> Skin<'a> {
         requires { length numbers.old ≡ 4 * triangle_count (bytes_in self) }
         ensures after { numbers.new ≡ triangles_in (bytes_in self.entry) }
     {
-        let from = self.header().behind_corners();
+        let from = Header::said_in(self.bytes).behind_corners();
         for (i, copy) in numbers.iter_mut().enumerate() {
             *copy = number(self.bytes, from + 4 * i);
         }
-    }
-
-    fn header(&self) -> Header
-        ensures { Said (bytes_in self.entry) result.corners result.triangles result.parts }
-    {
-        Header::said_in(self.bytes)
     }
 }
 
@@ -247,13 +245,18 @@ fn short(bytes: &[u8], at: usize) -> u16
     u16::from_le_bytes(bytes_at(bytes, at))
 }
 
-// The N bytes from a place on; one that is not there counts as 0. A loop, since of `array::from_fn` it is left open what state a call of its
-// closure leaves. Bytes and place are two, here and in what asks for this: a place may lie behind the end, where no slice begins.
+// The N bytes from a place on; one that is not there counts as 0. Most often all are there, and one test serves. Else a loop, since of
+// `array::from_fn` it is left open what state a call of its closure leaves. Bytes and place are two, here and in what asks for this: a
+// place may lie behind the end, where no slice begins.
 fn bytes_at<const N: usize>(bytes: &[u8], at: usize) -> [u8; N]
     requires { at + N < 2 ^ 64 }
     ensures value { (k : ℕ) → k < N → slice_index result k ≡ slice_index bytes.now (at + k) }
 {
     let mut found = [0; N];
+    if at + N <= bytes.len() {
+        found.copy_from_slice(&bytes[at..at + N]);
+        return found;
+    }
     for (k, byte) in found.iter_mut().enumerate() {
         *byte = bytes.get(at + k).copied().unwrap_or(0);
     }

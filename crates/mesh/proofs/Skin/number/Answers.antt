@@ -7,7 +7,7 @@ use Rattle.mesh.proofs.Skin.number.Goals as goal
 pub returns-then-i-triangles : goal.returns-then-i-triangles
 returns-then-i-triangles c =
     let bs = c.args.self.now.bytes.now in
-    let place : c.behind_corners.result + 4 * c.args.i ≡ triangles_from bs + 4 * c.args.i = omega arith in
+    let place : 12 + 6 * c.corners.result + 4 * c.args.i ≡ triangles_from bs + 4 * c.args.i = omega arith in
     record { value = c.number.ensures.value ∙ ap (number_at bs) place ∙ sym (get_or_listed (λ i. number_at bs (triangles_from bs + 4 * i)) (4 * triangle_count bs) c.args.i (omega arith)) }
 
 pub returns-else-i-triangles : goal.returns-else-i-triangles
