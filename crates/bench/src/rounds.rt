@@ -2,6 +2,7 @@
 use anyhow::{anyhow, ensure};
 use block::Block;
 use checker::{check, work_needed};
+use mesh::{corner_bytes, header_bytes, triangle_bytes};
 use part::number_parts;
 use skins::Skin;
 use std::alloc::{AllocError, Global};
@@ -15,7 +16,7 @@ use whole::{Made, make_skin};
 // How many spans a round has: of its eight stages, and of those that a caller waits for.
 const SPANS: usize = 9;
 
-// What the stages write to, just as long as the block wants it: made once, so that no stage waits for fresh memory. And the skin, to stream.
+// What the stages write to, just as long as the block wants it: made once, so that no stage waits for fresh memory.
 #[derive(Drop)]
 pub struct Buffers {
     corners: Vec<u32>,
@@ -24,7 +25,6 @@ pub struct Buffers {
     parts: Vec<Part>,
     bytes: Vec<u8>,
     space: Vec<u32>,
-    skin: Skin,
 }
 
 // What a round found, and how long its stages took, by their names.
@@ -47,16 +47,16 @@ impl Outcome {
 impl Buffers {
     pub fn new(heap: Global, bytes: &[u8]) -> anyhow::Result<Buffers> {
         let room = needed(bytes).map_err(|_| anyhow!("not a block"))?;
-        let skin = Skin::of(heap, bytes)?;
+        // How many parts there are is known of a skin that was made; it is let go at once.
+        let parts = Skin::of(heap, bytes)?.made.parts;
         let (corners, triangles) = (room.corners as usize, room.triangles as usize);
         Ok(Buffers {
             corners: vec![in heap; 0; 3 * corners]?,
             triangles: vec![in heap; 0; 4 * triangles]?,
             work: vec![in heap; 0; 6 * Block { bytes }.points()]?,
-            parts: vec![in heap; Part::NOTHING; skin.made.parts as usize]?,
+            parts: vec![in heap; Part::NOTHING; parts as usize]?,
             bytes: vec![in heap; 0; 12 + 6 * corners + 16 * triangles]?,
             space: vec![in heap; 0; work_needed(room.corners, room.triangles)]?,
-            skin,
         })
     }
 
@@ -76,7 +76,8 @@ impl Buffers {
         )?;
         let (verdict, checking) = timed(rt, || check(&self.bytes, &mut self.space))?;
         let (made, making) = timed(rt, || make_skin(bytes, corners, triangles, work, parts))?;
-        let (streamed, streaming) = timed(rt, || stream(rt.alloc(), &self.skin))?;
+        let made = made.map_err(|_| anyhow!("not made"))?;
+        let (streamed, streaming) = timed(rt, || stream(rt.alloc(), made, corners, triangles))?;
         streamed?;
         ensure!(
             room.is_ok() && measured && written.is_some() && verdict.is_ok(),
@@ -84,7 +85,7 @@ impl Buffers {
         );
         let whole = counting.saturating_add(making).saturating_add(streaming);
         Ok(Outcome {
-            made: made.map_err(|_| anyhow!("not made"))?,
+            made,
             spans: [
                 ("counting", counting),
                 ("building", building),
@@ -109,11 +110,22 @@ fn timed<T: Drop, F: FnOnce() -> T>(rt: &HostRuntime, stage: F) -> io::Result<(T
     Ok((outcome, start.elapsed(rt)?))
 }
 
-// The bytes of a skin as `skin` writes them, to nowhere.
-fn stream(heap: Global, skin: &Skin) -> io::Result<()> {
+// The bytes of the skin in these buffers as `skin` writes them, to nowhere. A `Skin` is not made of them: it would hold them a second time.
+fn stream(heap: Global, made: Made, corners: &[u32], triangles: &[u32]) -> io::Result<()> {
     let mut to = BufWriter::new(heap, io::sink())?;
-    skin.write_to(&mut to)?;
+    to.write_all(&header_bytes(made.corners, made.triangles, made.parts))?;
+    for [x, y, z] in corners.as_chunks::<3>().0 {
+        to.write_all(&corner_bytes(short(*x), short(*y), short(*z)))?;
+    }
+    for [a, b, c, part] in triangles.as_chunks::<4>().0 {
+        to.write_all(&triangle_bytes(*a, *b, *c, *part))?;
+    }
     to.flush()
+}
+
+// A coordinate is at most 95 times 256.
+fn short(coordinate: u32) -> u16 {
+    (coordinate & 0xffff) as u16
 }
 
 // The nanoseconds of one stage in each round, the least first.
