@@ -45,8 +45,11 @@ def stop(said, crate):
 
 
 def function(crate, file, line):
-    """The function that a line of the code is in."""
-    before = open(os.path.join('crates', crate, file), encoding='utf-8').read().split('\n')[:line]
+    """The function that a line of the code is in; an attribute belongs to the function below it."""
+    lines = open(os.path.join('crates', crate, file), encoding='utf-8').read().split('\n')
+    while lines[line - 1].strip().startswith('#['):
+        line += 1
+    before = lines[:line]
     names = [m[1] for m in (re.match(r'\s*(?:pub )?(?:const )?fn (\w+)', it) for it in before) if m]
     return names[-1] if names else file
 
